@@ -1,0 +1,6 @@
+pub mod LowestLaws
+pub mod SumLaws
+pub mod BufferLaws
+pub mod OrbitLaws
+pub mod MarkLaws
+pub mod MachineLaws

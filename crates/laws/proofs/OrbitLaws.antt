@@ -1,0 +1,212 @@
+-- Cycles of an injective map of 1..n into itself.
+-- Assumes nothing.
+use mathlib.Core.Path.{_≡_, refl, sym, ap, _∙_}
+use mathlib.Core.Logic.{by-cases, _⊎_, ⊎-elim}
+use mathlib.Core.Bool.{Bool, true, false, cond, true≢false}
+use Prim.Native.Nat.{ℕ, zero, suc, pred, _+_, _-_, _≤_, _<_}
+use native.Mathlib.Nat.{le-refl, zero-add, suc-add}
+use native.Mathlib.Decide.{decLe, decLt}
+use native.Mathlib.Numerals.{add-one}
+use native.Mathlib.Omega.{arith}
+use borrow.Author.Tests.{eqb-true, eqb-false, eq-eqb, ne-eqb, lt-ltb, le-ltb, ltb-true, ltb-false}
+use lib.Dec.{eqb, ltb}
+use Rattle.laws.specs.Lowest.{firstNonzero, lowest, At}
+use Rattle.laws.specs.Sums.{bit, sum, hits, Inj, Into}
+use Rattle.laws.specs.Orbit.{iterate, firstReturn, meets, owner, firstTaken, firstUnmet}
+use Rattle.laws.proofs.LowestLaws.{bool-cases, nonzero-zero, lowest-cases, lowest-pos, lowest-zero, lowest-some, lowest-none, lowest-is}
+use Rattle.laws.proofs.SumLaws.{sum-ext, sum-one, sum-none, sum-hits, pigeon}
+
+pub iterate-add : (f : ℕ → ℕ) (a b s : ℕ) → iterate f (a + b) s ≡ iterate f a (iterate f b s)
+iterate-add f zero b s = ap (λ (k : ℕ). iterate f k s) (zero-add b)
+iterate-add f (suc a) b s = ap (λ (k : ℕ). iterate f k s) (suc-add a b) ∙ ap f (iterate-add f a b s)
+
+pub iterate-in : (f : ℕ → ℕ) (n : ℕ) → Into f n n → (k s : ℕ) → 0 < s → s ≤ n → (0 < iterate f k s) × (iterate f k s ≤ n)
+iterate-in f n g zero s a b = (a, b)
+iterate-in f n g (suc k) s a b = let w = iterate-in f n g k s a b in g (iterate f k s) (w .0) (w .1)
+
+-- one move more: the place it comes to is met, and no other is met anew
+pub meets-hit : (f : ℕ → ℕ) (k a s : ℕ) → iterate f (suc k) a ≡ s → meets f (suc k) a s ≡ true
+meets-hit f k a s e = lt-ltb 0 _ (lowest-some (λ i. eqb (iterate f i a) s) (suc k) (suc k) (omega arith) (le-refl (suc k)) (eq-eqb _ s e))
+
+pub meets-miss : (f : ℕ → ℕ) (k a s : ℕ) → (iterate f (suc k) a ≡ s → ⊥) → meets f (suc k) a s ≡ meets f k a s
+meets-miss f k a s h = ap (ltb 0) (ap (λ (b : Bool). firstNonzero (lowest (λ i. eqb (iterate f i a) s) k) (cond b (suc k) 0)) (ne-eqb _ s h) ∙ nonzero-zero (lowest (λ i. eqb (iterate f i a) s) k))
+
+module _ (f : ℕ → ℕ) (n : ℕ) (g : Into f n n) (h : Inj f n) where
+  iterate-cancel : (k s t : ℕ) → 0 < s → s ≤ n → 0 < t → t ≤ n → iterate f k s ≡ iterate f k t → s ≡ t
+  iterate-cancel zero s t a b c d e = e
+  iterate-cancel (suc k) s t a b c d e =
+      let v = iterate-in f n g k s a b in
+      let w = iterate-in f n g k t c d in
+      iterate-cancel k s t a b c d (h (iterate f k s) (iterate f k t) (v .0) (v .1) (w .0) (w .1) e)
+
+  module _ (s : ℕ) (a : 0 < s) (b : s ≤ n) where
+    -- met again: then s itself is back after the moves in between
+    back : (i j : ℕ) → i < j → iterate f i s ≡ iterate f j s → iterate f (j - i) s ≡ s
+    back i j l e =
+        let w = iterate-in f n g (j - i) s a b in
+        let q : j ≡ i + (j - i) = omega arith in
+        sym (iterate-cancel i s (iterate f (j - i) s) a b (w .0) (w .1) (e ∙ ap (λ (k : ℕ). iterate f k s) q ∙ iterate-add f i (j - i) s))
+
+    -- THE WALK CLOSES, within n moves
+    pub closes : At (λ k. eqb (iterate f k s) s) n (firstReturn f n s)
+    closes =
+        ⊎-elim
+        (λ c.
+        let apart : (i j : ℕ) → i < j → 0 < i → j ≤ suc n → iterate f i s ≡ iterate f j s → ⊥ =
+        λ i j l u v e. true≢false (sym (eq-eqb (iterate f (j - i) s) s (back i j l e)) ∙ c .1 .fails (j - i) (omega arith) (omega arith)) in
+        let inj : Inj (λ j. iterate f j s) (suc n) =
+        λ i j u v w x e. by-cases (decLt i j) (λ l. absurd (apart i j l u x e)) (λ l. by-cases (decLt j i) (λ m. absurd (apart j i m w v (sym e))) (λ m. omega arith)) in
+        absurd (omega (arith, pigeon (λ j. iterate f j s) (suc n) n (λ k u v. iterate-in f n g k s a b) inj)))
+        (λ c. c)
+        (lowest-cases (λ k. eqb (iterate f k s) s) n)
+
+    pub returns-to : iterate f (firstReturn f n s) s ≡ s
+    returns-to = eqb-true (iterate f (firstReturn f n s) s) s (closes .passes)
+
+    -- NO SIDE TWICE before the return
+    pub no-repeat : (i j : ℕ) → i < j → j - i < firstReturn f n s → iterate f i s ≡ iterate f j s → ⊥
+    no-repeat i j l m e = true≢false (sym (eq-eqb (iterate f (j - i) s) s (back i j l e)) ∙ closes .below (j - i) (omega arith) m)
+
+    pub inj-walk : Inj (λ j. iterate f j s) (firstReturn f n s)
+    inj-walk i j u v w x e =
+        by-cases (decLt i j) (λ l. absurd (no-repeat i j l (omega arith) e))
+        (λ l. by-cases (decLt j i) (λ m. absurd (no-repeat j i m (omega arith) (sym e))) (λ m. omega arith))
+
+    -- any number of moves comes to a place of the first round
+    pub reduce : (k : ℕ) → (j : ℕ) × (0 < j) × (j ≤ firstReturn f n s) × (iterate f j s ≡ iterate f k s)
+    reduce zero = (firstReturn f n s, closes .pos, le-refl (firstReturn f n s), returns-to)
+    reduce (suc k) =
+        let r = reduce k in
+        by-cases (decLt (r .0) (firstReturn f n s))
+        (λ c. (suc (r .0), omega arith, c, ap f (r .3)))
+        (λ c.
+        let q : r .0 ≡ firstReturn f n s = omega (arith, r .2) in
+        (1, omega arith, closes .pos, ap f (sym returns-to ∙ ap (λ (k : ℕ). iterate f k s) (sym q) ∙ r .3)))
+
+    pub meets-of : (k t : ℕ) → iterate f k s ≡ t → meets f n s t ≡ true
+    meets-of k t e =
+        let r = reduce k in
+        lt-ltb 0 _ (lowest-some (λ k. eqb (iterate f k s) t) n (r .0) (r .1) (omega (arith, r .2, closes .within)) (eq-eqb (iterate f (r .0) s) t (r .3 ∙ e)))
+
+    pub of-meets : (t : ℕ) → meets f n s t ≡ true → (k : ℕ) × (iterate f k s ≡ t)
+    of-meets t e =
+        let p = lowest-pos (λ k. eqb (iterate f k s) t) n (ltb-true 0 _ e) in
+        (lowest (λ k. eqb (iterate f k s) t) n, eqb-true _ t (p .passes))
+
+    -- and from any place of the round s is met again
+    pub turn : (k t : ℕ) → iterate f k s ≡ t → (j : ℕ) × (iterate f j t ≡ s)
+    turn k t e =
+        let r = reduce k in
+        let q : firstReturn f n s - r .0 + r .0 ≡ firstReturn f n s = omega (arith, r .2) in (
+          firstReturn f n s - r .0,
+          ap (iterate f (firstReturn f n s - r .0)) (sym (r .3 ∙ e)) ∙ sym (iterate-add f (firstReturn f n s - r .0) (r .0) s) ∙ ap (λ (k : ℕ). iterate f k s) q ∙ returns-to,
+        )
+
+    -- the round has as many places as moves
+    pub round-size : sum (λ t. bit (meets f n s t)) n ≡ firstReturn f n s
+    round-size =
+        sum-ext (λ t. bit (meets f n s t)) (hits (λ j. iterate f j s) (firstReturn f n s)) n
+        (λ t u v.
+        bool-cases (meets f n s t)
+        (λ c.
+        let w = of-meets t c in
+        let r = reduce (w .0) in
+        rw c
+        (sym
+        (sum-one (λ j. eqb t (iterate f j s)) (firstReturn f n s) (r .0) (r .1) (r .2) (eq-eqb t _ (sym (r .3 ∙ w .1)))
+        (λ k x y z. inj-walk k (r .0) x y (r .1) (r .2) (sym (eqb-true t _ z) ∙ sym (r .3 ∙ w .1))))))
+        (λ c.
+        rw c
+        (sym
+        (sum-none (λ j. eqb t (iterate f j s)) (firstReturn f n s)
+        (λ k x y. ne-eqb t _ (λ z. true≢false (sym (meets-of k t (sym z)) ∙ c)))))))
+        ∙ sum-hits (λ j. iterate f j s) (firstReturn f n s) n (λ k u v. iterate-in f n g k s a b)
+
+    -- the round itself meets what n moves meet
+    pub meets-round : (t : ℕ) → meets f (firstReturn f n s) s t ≡ meets f n s t
+    meets-round t =
+        bool-cases (meets f n s t)
+        (λ c.
+        let w = of-meets t c in
+        let r = reduce (w .0) in
+        lt-ltb 0 _ (lowest-some (λ k. eqb (iterate f k s) t) (firstReturn f n s) (r .0) (r .1) (r .2) (eq-eqb (iterate f (r .0) s) t (r .3 ∙ w .1))) ∙ sym c)
+        (λ c.
+        bool-cases (meets f (firstReturn f n s) s t)
+        (λ d. absurd (true≢false (sym (meets-of (lowest (λ k. eqb (iterate f k s) t) (firstReturn f n s)) t (eqb-true _ t (lowest-pos (λ k. eqb (iterate f k s) t) (firstReturn f n s) (ltb-true 0 _ d) .passes))) ∙ c)))
+        (λ d. d ∙ sym c))
+
+  -- TWO WALKS THAT MEET meet the same places
+  pub same-round : (s : ℕ) (a : 0 < s) (b : s ≤ n) (t : ℕ) (c : 0 < t) (d : t ≤ n) (u v : ℕ) → meets f n s u ≡ true → meets f n t u ≡ true → meets f n t v ≡ true → meets f n s v ≡ true
+  same-round s a b t c d u v e₁ e₂ e₃ =
+      let w₁ = of-meets s a b u e₁ in
+      let w₂ = of-meets t c d u e₂ in
+      let w₃ = of-meets t c d v e₃ in
+      let r = turn t c d (w₂ .0) u (w₂ .1) in
+      meets-of s a b (w₃ .0 + (r .0 + w₁ .0)) v
+      (iterate-add f (w₃ .0) (r .0 + w₁ .0) s ∙ ap (iterate f (w₃ .0)) (iterate-add f (r .0) (w₁ .0) s ∙ ap (iterate f (r .0)) (w₁ .1) ∙ r .1) ∙ w₃ .1)
+
+  -- a row r + 1 whose start no earlier row's walk meets: its round is marked with it, and no mark of an earlier row is lost
+  pub paint-row : (st : ℕ → ℕ) (r : ℕ) → ((q : ℕ) → 0 < q → q ≤ suc r → (0 < st q) × (st q ≤ n)) → owner f n st r (st (suc r)) ≡ 0
+      → (s : ℕ) → cond (meets f (firstReturn f n (st (suc r))) (st (suc r)) s) (suc r) (owner f n st r s) ≡ owner f n st (suc r) s
+  paint-row st r starts free s =
+      let S = starts (suc r) (omega arith) (le-refl (suc r)) in
+      ap (λ (b : Bool). cond b (suc r) (owner f n st r s)) (meets-round (st (suc r)) (S .0) (S .1) s)
+      ∙ bool-cases (meets f n (st (suc r)) s)
+      (λ c.
+      let z : owner f n st r s ≡ 0 =
+      lowest-none (λ q. meets f n (st q) s) r
+      (λ q u v.
+      let Q = starts q u (omega arith) in
+      bool-cases (meets f n (st q) s)
+      (λ d.
+      absurd
+      (true≢false
+      (sym (same-round (st q) (Q .0) (Q .1) (st (suc r)) (S .0) (S .1) s (st (suc r)) d c (meets-of (st (suc r)) (S .0) (S .1) 0 (st (suc r)) refl))
+      ∙ lowest-zero (λ q. meets f n (st q) (st (suc r))) r free .fails q u v)))
+      (λ d. d)) in
+      rw (z, c))
+      (λ c. rw c (sym (nonzero-zero (owner f n st r s))))
+
+  module _ (st : ℕ → ℕ) (R : ℕ) (starts : Into st R n) (once : firstTaken f n st R ≡ 0) where
+    -- EXACTLY ONE ROW: a row whose walk meets s is the owner of s
+    pub owner-is : (r s : ℕ) → 0 < r → r ≤ R → meets f n (st r) s ≡ true → owner f n st R s ≡ r
+    owner-is r s a b e =
+        lowest-is (λ q. meets f n (st q) s) R r a b e
+        (λ k u v.
+        bool-cases (meets f n (st k) s)
+        (λ t.
+        let S = starts r a b in
+        let K = starts k u (omega arith) in
+        let m : meets f n (st k) (st r) ≡ true = same-round (st k) (K .0) (K .1) (st r) (S .0) (S .1) s (st r) t e (meets-of (st r) (S .0) (S .1) 0 (st r) refl) in
+        let z = lowest-zero (λ r. ltb 0 (owner f n st (pred r) (st r))) R once in
+        absurd
+        (true≢false
+        (sym (lt-ltb 0 (owner f n st (pred r) (st r)) (lowest-some (λ q. meets f n (st q) (st r)) (pred r) k u (omega arith) m)) ∙ z .fails r a b)))
+        (λ t. t))
+
+    pub owner-on : (r s : ℕ) → 0 < r → owner f n st R s ≡ r → meets f n (st r) s ≡ true
+    owner-on r s a e = rw e at (lowest-pos (λ q. meets f n (st q) s) R (rw e a) .passes)
+
+    -- THE SUM of the rows' moves
+    pub sum-law : firstUnmet f n st R ≡ 0 → sum (λ r. firstReturn f n (st r)) R ≡ n
+    sum-law none =
+        sum-ext (λ r. firstReturn f n (st r)) (hits (owner f n st R) n) R
+        (λ r a b.
+        let S = starts r a b in
+        sym (round-size (st r) (S .0) (S .1))
+        ∙ sum-ext (λ s. bit (meets f n (st r) s)) (λ s. bit (eqb r (owner f n st R s))) n
+        (λ s u v.
+        ap bit
+        (bool-cases (meets f n (st r) s)
+        (λ c. c ∙ sym (eq-eqb r _ (sym (owner-is r s a b c))))
+        (λ c. c ∙ sym (ne-eqb r _ (λ z. true≢false (sym (owner-on r s a (sym z)) ∙ c)))))))
+        ∙ sum-hits (owner f n st R) n R
+        (λ s u v.
+        ⊎-elim
+        (λ c. absurd (true≢false (sym (eq-eqb (owner f n st R s) 0 (c .0)) ∙ lowest-zero (λ s. eqb (owner f n st R s) 0) n none .fails s u v)))
+        (λ c. (c .pos, c .within))
+        (lowest-cases (λ q. meets f n (st q) s) R))
+
+-- as a loop has it, at `k + 1`
+pub iterate-next : (f : ℕ → ℕ) (k s x y : ℕ) → x ≡ iterate f k s → y ≡ f x → y ≡ iterate f (k + 1) s
+iterate-next f k s x y e u = u ∙ ap f e ∙ ap (λ (i : ℕ). iterate f i s) (sym (add-one k))

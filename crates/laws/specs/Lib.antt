@@ -1,0 +1,6 @@
+pub mod Lowest
+pub mod Sums
+pub mod Orbit
+pub mod Buffer
+pub mod Marks
+pub mod Machine

@@ -1,0 +1,25 @@
+-- The lowest number of 1..n that passes a test: "lowest row or side first" is this one definition.
+use mathlib.Core.Path.{_≡_}
+use mathlib.Core.Bool.{Bool, true, false, cond}
+use Prim.Native.Nat.{ℕ, zero, suc, _≤_, _<_}
+
+-- the first of two that is not 0
+abbrev pub firstNonzero : ℕ → ℕ → ℕ
+firstNonzero zero b = b
+firstNonzero (suc a) b = suc a
+
+-- the lowest of 1..n that passes the test, or 0
+abbrev pub lowest : (ℕ → Bool) → ℕ → ℕ
+lowest p zero = 0
+lowest p (suc n) = firstNonzero (lowest p n) (cond (p (suc n)) (suc n) 0)
+
+-- none of 1..n passes
+pub record None (p : ℕ → Bool) (n : ℕ) : Type 0 where
+  pub fails : (k : ℕ) → 0 < k → k ≤ n → p k ≡ false
+
+-- r is the lowest of 1..n that passes
+pub record At (p : ℕ → Bool) (n r : ℕ) : Type 0 where
+  pub pos : 0 < r
+  pub within : r ≤ n
+  pub passes : p r ≡ true
+  pub below : (k : ℕ) → 0 < k → k < r → p k ≡ false

@@ -1,0 +1,85 @@
+-- The laws of tests in order: what a loop over rows needs, and what the first refusal of a list says. Assumes nothing.
+use mathlib.Core.Path.{_≡_, refl, sym, ap, _∙_}
+use mathlib.Core.Bool.{Bool, true, false, true≢false}
+use mathlib.Core.List.{List, [], _∷_, _++_}
+use Prim.Native.Nat.{ℕ, zero, suc, _+_, _≤_, _<_}
+use native.Mathlib.Omega.{arith}
+use native.Mathlib.Numerals.{add-one}
+use lib.Dec.{eqb, ltb, leb}
+use borrow.Author.Tests.{lt-ltb, le-ltb, eq-eqb, ne-eqb, eqb-true, eqb-false}
+use Rattle.laws.specs.Lowest.{lowest, None}
+use Rattle.laws.proofs.LowestLaws.{none-next, lowest-found, lowest-nothing, bool-cases}
+use Rattle.refusal.specs.declared.Refusal.{Refusal}
+use Rattle.refusal.specs.Order.{refusal, fine, first, located, firstOf, refuses, lowestOf, AllFine, RefusedFirst}
+
+-- a test that passes leaves the answer to the rest, and one that refuses is the answer
+pub first-passes : (a b : Refusal) → a .number ≡ 0 → first a b ≡ b
+unfolding first
+first-passes a b h = rw (eq-eqb (a .number) 0 h)
+
+pub first-refuses : (a b : Refusal) → (a .number ≡ 0 → ⊥) → first a b ≡ a
+unfolding first
+first-refuses a b h = rw (ne-eqb (a .number) 0 h)
+
+-- neither of two refuses
+pub both : (a b : Refusal) → first a b .number ≡ 0 → (a .number ≡ 0) × (b .number ≡ 0)
+both a b h =
+    bool-cases (eqb (a .number) 0)
+    (λ t. let z = eqb-true (a .number) 0 t in (z, ap (λ (r : Refusal). r .number) (sym (first-passes a b z)) ∙ h))
+    (λ t. absurd (eqb-false (a .number) 0 t (ap (λ (r : Refusal). r .number) (sym (first-refuses a b (eqb-false (a .number) 0 t))) ∙ h)))
+
+-- nothing at 0, the number elsewhere
+pub located-zero : (n p : ℕ) → p ≡ 0 → located n p ≡ fine
+unfolding located
+located-zero n p h = rw (eq-eqb p 0 h)
+
+pub located-at : (n p : ℕ) → (p ≡ 0 → ⊥) → located n p ≡ refusal n p
+unfolding located
+located-at n p h = rw (ne-eqb p 0 h)
+
+-- ---- a loop over rows: row i + 1 is fine; is the lowest that refuses; no row refuses
+pub on-next : (f : ℕ → Refusal) (i : ℕ) (q : Refusal) → None (refuses f) i → q ≡ f (i + 1) → q .number ≡ 0 → None (refuses f) (i + 1)
+on-next f i q h e z =
+    let u : f (suc i) .number ≡ 0 = rw (← add-one i, ← e) z in
+    none-next (refuses f) i h (rw u)
+
+pub found : (f : ℕ → Refusal) (n i : ℕ) (q : Refusal) → i < n → None (refuses f) i → q ≡ f (i + 1) → (q .number ≡ 0 → ⊥) → q ≡ lowestOf f n
+unfolding lowestOf
+found f n i q l h e z =
+    let u : f (suc i) ≡ q = rw (← add-one i, e) in
+    let v : refuses f (suc i) ≡ true = rw u (lt-ltb 0 (q .number) (omega arith)) in
+    rw (lowest-found (refuses f) n i l h v) (sym u)
+
+pub all-fine : (f : ℕ → Refusal) (n i : ℕ) → n ≤ i → i ≤ n → None (refuses f) i → fine ≡ lowestOf f n
+unfolding lowestOf
+all-fine f n i a b h =
+    let e : i ≡ n = omega arith in
+    rw (lowest-nothing (refuses f) n (rw e at h))
+
+-- ---- "accepted exactly when" every test passes, and "refused with r exactly when" r is the first that refuses
+pub all-pass : (l : List Refusal) → AllFine l → firstOf l .number ≡ 0
+all-pass [] h = refl
+all-pass (a ∷ l) h = ap (λ (r : Refusal). r .number) (first-passes a (firstOf l) (h .0)) ∙ all-pass l (h .1)
+
+pub passed-all : (l : List Refusal) → firstOf l .number ≡ 0 → AllFine l
+passed-all [] h = tt
+passed-all (a ∷ l) h = let b = both a (firstOf l) h in (b .0, passed-all l (b .1))
+
+pub first-is : (earlier later : List Refusal) (r : Refusal) → AllFine earlier → (r .number ≡ 0 → ⊥) → firstOf (earlier ++ (r ∷ later)) ≡ r
+first-is [] later r p n = first-refuses r (firstOf later) n
+first-is (a ∷ l) later r p n = first-passes a (firstOf (l ++ (r ∷ later))) (p .0) ∙ first-is l later r (p .1) n
+
+pub refused-first : (l : List Refusal) (r : Refusal) → firstOf l ≡ r → (r .number ≡ 0 → ⊥) → RefusedFirst l r
+refused-first [] r e n = absurd (n (ap (λ (r : Refusal). r .number) (sym e)))
+refused-first (a ∷ l) r e n =
+    bool-cases (eqb (a .number) 0)
+    (λ t.
+    let z = eqb-true (a .number) 0 t in
+    let w = refused-first l r (sym (first-passes a (firstOf l) z) ∙ e) n in
+    record { earlier = a ∷ w .earlier; later = w .later; stands = ap (λ (k : List Refusal). a ∷ k) (w .stands); passed = (z, w .passed); refused = n })
+    (λ t.
+    let q : a ≡ r = sym (first-refuses a (firstOf l) (eqb-false (a .number) 0 t)) ∙ e in
+    record { earlier = []; later = l; stands = ap (λ (k : Refusal). k ∷ l) q; passed = tt; refused = n })
+
+pub first-refused : (l : List Refusal) (r : Refusal) → RefusedFirst l r → firstOf l ≡ r
+first-refused l r w = ap firstOf (w .stands) ∙ first-is (w .earlier) (w .later) r (w .passed) (w .refused)
