@@ -1,0 +1,117 @@
+-- "Accepted when all of these hold, tested in order, lowest row or side first": the tests, and the answer.
+use mathlib.Core.Bool.{Bool, true, false, cond, not, _&&_, _||_}
+use mathlib.Core.List.{List, [], _∷_}
+use Prim.Native.Nat.{ℕ, pred, _*_}
+use lib.Dec.{eqb, ltb}
+use lib.ListN.{length}
+use Rattle.laws.specs.Lowest.{lowest}
+use Rattle.laws.specs.Orbit.{entry, firstTaken, firstUnmet, firstDoubled}
+use Rattle.laws.specs.Buffer.{front}
+use Rattle.laws.specs.Marks.{zeros, ownerAt}
+use Rattle.refusal.specs.declared.Refusal.{Refusal}
+use Rattle.refusal.specs.Order.{refusal, fine, refusedIf, located, lowestOf, firstOf}
+use Rattle.side.specs.declared.Successor.{Successor}
+use Rattle.side.specs.declared.Successor.the-variants.{Side, Wrong}
+use Rattle.side.specs.Edges.{outside}
+use Rattle.side.specs.Successor.{successor, after}
+use Rattle.tile.specs.Columns.{Tile, E, F, R, N, sides, mostRows, startSide, emptyStart}
+use Rattle.tile.specs.declared.Verdict.{Verdict}
+use Rattle.tile.specs.declared.Verdict.the-variants.{Accepted, Refused}
+
+-- 15: "tile slices of one table unequal"
+unfoldable pub slicesUnequal : Tile → Bool
+slicesUnequal t =
+    not (eqb (length (t .edg .endNode)) (E t)) || (not (eqb (length (t .edg .rightFace)) (E t)) || (not (eqb (length (t .edg .leftFace)) (E t))
+    || (not (eqb (length (t .edg .rightEdge)) (E t)) || (not (eqb (length (t .edg .leftEdge)) (E t)) || not (eqb (length (t .startEdge)) (R t))))))
+
+-- 15: "over 1,000,000 rows"
+unfoldable pub tooManyRows : Tile → Bool
+tooManyRows t = ltb mostRows (E t) || (ltb mostRows (F t) || (ltb mostRows (R t) || ltb mostRows (N t)))
+
+-- 15: "tile slices of one table unequal", "over 1,000,000 rows", "F or R zero"
+unfoldable pub sizesWrong : Tile → Bool
+sizesWrong t = slicesUnequal t || (tooManyRows t || (eqb (F t) 0 || eqb (R t) 0))
+
+-- 20, 21, 22: row e of two columns has a number that is none of 1..most
+abbrev pub rowOutside : ℕ → List ℕ → List ℕ → ℕ → Bool
+rowOutside most a b e = outside most (entry a e) || outside most (entry b e)
+
+abbrev pub nodeOutside : Tile → ℕ → Bool
+nodeOutside t = rowOutside (N t) (t .edg .startNode) (t .edg .endNode)
+
+abbrev pub faceOutside : Tile → ℕ → Bool
+faceOutside t = rowOutside (F t) (t .edg .rightFace) (t .edg .leftFace)
+
+abbrev pub linkOutside : Tile → ℕ → Bool
+linkOutside t = rowOutside (E t) (t .edg .rightEdge) (t .edg .leftEdge)
+
+-- 23, 24, 25: what is wrong at a side
+abbrev pub refusedSide : ℕ → Successor → Refusal
+refusedSide s (Side u) = fine
+refusedSide s (Wrong n) = refusal n s
+
+abbrev pub sideRefusal : Tile → ℕ → Refusal
+sideRefusal t s = refusedSide s (successor (t .edg) s)
+
+-- 27: "each node's first_edge in 1..E and touching it"
+abbrev pub firstEdgeWrong : Tile → ℕ → Bool
+firstEdgeWrong t n =
+    outside (E t) (entry (t .firstEdge) n)
+    || (not (eqb (entry (t .edg .startNode) (entry (t .firstEdge) n)) n) && not (eqb (entry (t .edg .endNode) (entry (t .firstEdge) n)) n))
+
+-- 28: "every ring's face in 1..F"
+abbrev pub ringFaceOutside : Tile → ℕ → Bool
+ringFaceOutside t r = outside (F t) (entry (t .facId) r)
+
+-- ring row r begins a run of rows of one face, and the face's ring_ptr names another row
+abbrev pub runElsewhere : Tile → ℕ → Bool
+runElsewhere t r = not (eqb (entry (t .facId) (pred r)) (entry (t .facId) r)) && not (eqb (entry (t .ringPtr) (entry (t .facId) r)) r)
+
+-- 28: "its ring rows being exactly one unbroken run that starts at its ring_ptr": the row that ring_ptr names is the face's,
+-- and no run of the face begins elsewhere
+abbrev pub runWrong : Tile → ℕ → Bool
+runWrong t f =
+    not (eqb (entry (t .facId) (entry (t .ringPtr) f)) f)
+    || ltb 0 (lowest (λ r. eqb (entry (t .facId) r) f && runElsewhere t r) (R t))
+
+-- 29: a start that is neither a side with the ring's face nor the allowed 0
+abbrev pub startWrong : Tile → ℕ → Bool
+startWrong t r = not (emptyStart t r) && eqb (startSide t r) 0
+
+-- the tests in document 01's order; `space` is the length of the lent owner marks
+abbrev pub tests : Tile → ℕ → List Refusal
+tests t space =
+    refusedIf (sizesWrong t) 15 0
+    ∷ refusedIf (ltb space (sides t)) 14 (sides t)
+    ∷ located 20 (lowest (nodeOutside t) (E t))
+    ∷ located 21 (lowest (faceOutside t) (E t))
+    ∷ located 22 (lowest (linkOutside t) (E t))
+    ∷ lowestOf (sideRefusal t) (sides t)
+    ∷ located 26 (firstDoubled (after (t .edg)) (sides t))
+    ∷ located 27 (lowest (firstEdgeWrong t) (N t))
+    ∷ located 28 (lowest (ringFaceOutside t) (R t))
+    ∷ located 28 (lowest (runWrong t) (F t))
+    ∷ located 29 (lowest (startWrong t) (R t))
+    ∷ located 30 (firstTaken (after (t .edg)) (sides t) (startSide t) (R t))
+    ∷ located 31 (firstUnmet (after (t .edg)) (sides t) (startSide t) (R t))
+    ∷ []
+
+unfoldable pub verdict : Tile → ℕ → Refusal
+verdict t space = firstOf (tests t space)
+
+abbrev pub answered : Refusal → Verdict
+answered q = cond (eqb (q .number) 0) Accepted (Refused q)
+
+-- THE CHECK
+abbrev pub verdictOf : Tile → ℕ → Verdict
+verdictOf t space = answered (verdict t space)
+
+-- "On acceptance the owner marks hold the ring row of each side, side 1 first; space beyond 2E is unchanged." "Check refusals
+-- 20 to 31 set the first 2E marks to zero. Every other refusal changes no lent byte."
+unfoldable pub marksLeft : Tile → Refusal → List ℕ → List ℕ
+marksLeft t q d =
+    cond (eqb (q .number) 0) (front (ownerAt (after (t .edg)) (sides t) (startSide t) (R t)) (sides t) d)
+    (cond (ltb (q .number) 20) d (front zeros (sides t) d))
+
+abbrev pub marksAfter : Tile → List ℕ → List ℕ
+marksAfter t d = marksLeft t (verdict t (length d)) d

@@ -1,0 +1,5 @@
+pub mod Columns
+pub mod Check
+pub mod Walk
+pub mod Facts
+pub mod Demand

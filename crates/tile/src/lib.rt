@@ -1,0 +1,18 @@
+// A tile checked and walked.
+use refusal::Refusal;
+
+pub enum Verdict {
+    Accepted,
+    Refused(Refusal),
+}
+
+pub enum Moves {
+    Back(usize),
+    Open,
+    Stuck(Refusal),
+}
+
+pub enum Walked {
+    Steps(usize),
+    Refused(Refusal),
+}
