@@ -2,28 +2,24 @@
 -- hold, and no two answers' words hold at one side. Nothing is asked of the columns or of the side number (side 0 has no link).
 -- Assumes nothing.
 use mathlib.Core.Path.{_≡_, refl, sym, ap, _∙_}
-use mathlib.Core.Logic.{by-cases, _⊎_, inl, inr, ⊎-elim}
+use mathlib.Core.Logic.{_↔_, by-cases, _⊎_, inl, inr, ⊎-elim}
 use mathlib.Core.Bool.{true, false, true≢false}
 use Prim.Native.Nat.{ℕ, _*_, _-_, _%_, _≤_, _<_}
 use native.Mathlib.Decide.{ℕ-discrete}
 use native.Mathlib.Omega.{arith}
 use borrow.Author.Tests.{eq-eqb, ne-eqb, eqb-true, eqb-false, le-ltb, ltb-false}
-use lib.Dec.{eqb}
+use lib.Dec.{eqb, ltb}
 use Rattle.laws.specs.Orbit.{entry}
 use Rattle.laws.proofs.LowestLaws.{bool-cases}
+use Rattle.laws.proofs.TestLaws.{or-false, nonzero, not-above}
 use Rattle.side.specs.Edges.{Edges, edgeCount, sideCount, outside, right, left, edgeOf, bySide, face, runsTo, link, leavesFrom}
 use Rattle.side.specs.Successor.{leaving, leavingEdge, successor, sideOf, after, Leaves, Follows, Fault, no-touch, other-face, both-sides}
 use Rattle.side.specs.declared.Successor.{Successor}
 use Rattle.side.specs.declared.Successor.the-variants.{Side, Wrong}
 
--- ---- the test `outside` says that a number is none of 1..most
-pub inside : (most x : ℕ) → outside most x ≡ false → (0 < x) × (x ≤ most)
-inside most x e =
-    bool-cases (eqb x 0) (λ z. absurd (true≢false (rw z at e)))
-    (λ z. let p = eqb-false x 0 z in (omega arith, ltb-false most x (rw z at e)))
-
-pub not-outside : (most x : ℕ) → 0 < x → x ≤ most → outside most x ≡ false
-not-outside most x a b = rw (ne-eqb x 0 (λ e. omega arith), le-ltb most x b)
+-- the test `outside` says that a number is none of 1..most
+pub not-outside : (most x : ℕ) → (outside most x ≡ false) ↔ ((0 < x) × (x ≤ most))
+not-outside most x = or-false (eqb x 0) (ltb most x) (nonzero x) (not-above most x)
 
 -- ---- the two sides of the edge k
 module _ (k : ℕ) (pos : 0 < k) where
@@ -190,8 +186,8 @@ module _ (t : Edges) (s : ℕ) where
   unfolding successor leavingEdge
   says =
       bool-cases (outside (edgeCount t) (link t s))
-      (λ o. rw o (inl (refl, λ l. true≢false (sym o ∙ not-outside (edgeCount t) (link t s) (l .0) (l .1)))))
-      (λ o. rw o (in-words (inside (edgeCount t) (link t s) o) _ (departs _ _ _ _ _ _ _)))
+      (λ o. rw o (inl (refl, λ l. true≢false (sym o ∙ not-outside (edgeCount t) (link t s) .1 l))))
+      (λ o. rw o (in-words (not-outside (edgeCount t) (link t s) .0 o) _ (departs _ _ _ _ _ _ _)))
 
 -- ---- "The successor is the side of the linked edge that leaves from that node", exactly
 pub successor-follows : (t : Edges) (s u : ℕ) → successor t s ≡ Side u → Follows t s u
