@@ -25,6 +25,10 @@ pub denied : {P : Type 0} (a : Bool) → (a ≡ true) ↔ P → (not a ≡ false
 denied true f = (λ e. f .0 refl, λ h. refl)
 denied false f = (λ e. absurd (true≢false e), λ h. absurd (true≢false (sym (f .1 h))))
 
+pub refuted : {P : Type 0} (a : Bool) → (a ≡ true) ↔ P → (a ≡ false) ↔ (P → ⊥)
+refuted true f = (λ e. absurd (true≢false e), λ h. absurd (h (f .0 refl)))
+refuted false f = (λ e p. true≢false (sym (f .1 p)), λ h. refl)
+
 -- ---- of numbers
 pub equal : (x y : ℕ) → (eqb x y ≡ true) ↔ (x ≡ y)
 equal x y = (eqb-true x y, eq-eqb x y)
