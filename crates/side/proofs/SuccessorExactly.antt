@@ -132,7 +132,7 @@ module _ (t : Edges) (s : ℕ) (pos : 0 < link t s) where
   no-fault u n h (other-face w a b none) = none u (h .leaves)
   no-fault u n h (both-sides r l) = omega (arith, h .only (right (link t s)) r, h .only (left (link t s)) l)
 
-  one-fault : (n m : ℕ) → Fault t s n → Fault t s m → n ≡ m
+  pub one-fault : (n m : ℕ) → Fault t s n → Fault t s m → n ≡ m
   one-fault n m (no-touch none) (no-touch also) = refl
   one-fault n m (no-touch none) (other-face w a b also) = absurd (none w a b)
   one-fault n m (no-touch none) (both-sides r l) = absurd (none _ (r .linked) (r .from))

@@ -1,1 +1,4 @@
 pub mod TestsInWords
+pub mod InOrder
+pub mod AcceptedExactly
+pub mod RefusedExactly

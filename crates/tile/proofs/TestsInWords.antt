@@ -2,30 +2,30 @@
 -- its number at the lowest row or side where they fail. Assumes nothing.
 use mathlib.Core.Path.{_≡_, refl, sym, ap, _∙_}
 use mathlib.Core.Logic.{_↔_, by-cases, _⊎_, inl, inr, ⊎-elim}
-use mathlib.Core.Bool.{Bool, true, false, cond, not, _&&_, _||_, true≢false}
+use mathlib.Core.Bool.{Bool, true, false, not, _&&_, true≢false}
 use mathlib.Core.List.{List}
-use Prim.Native.Nat.{ℕ, zero, suc, pred, _+_, _*_, _-_, _/_, _%_, _≤_, _<_}
+use Prim.Native.Nat.{ℕ, zero, suc, pred, _+_, _-_, _%_, _≤_, _<_}
 use native.Mathlib.Decide.{decLe, decLt, ℕ-discrete}
 use native.Mathlib.Omega.{arith}
-use borrow.Author.Tests.{eq-eqb, ne-eqb, eqb-true, eqb-false, lt-ltb, le-ltb, ltb-true, ltb-false, not-true}
+use borrow.Author.Tests.{ne-eqb, eqb-true, eqb-false, le-ltb, ltb-true, ltb-false}
 use lib.Dec.{eqb, ltb}
 use lib.ListN.{length, List·getD-eq-default}
 use Rattle.laws.specs.Lowest.{lowest, At}
 use Rattle.laws.specs.Sums.{hits, Inj, Into}
-use Rattle.laws.specs.Orbit.{entry, iterate, meets, owner, firstDoubled, firstTaken, firstUnmet}
+use Rattle.laws.specs.Orbit.{entry, meets, owner, firstDoubled, firstTaken, firstUnmet}
 use Rattle.laws.proofs.TestLaws.{or-false, and-false, and-true, denied, refuted, equal, not-unequal, nonzero, not-above}
 use Rattle.laws.proofs.LowestLaws.{bool-cases, lowest-cases, lowest-some, lowest-none, lowest-pos, lowest-zero}
 use Rattle.laws.proofs.SumLaws.{sum-most, hits-single, hits-some, hits-one, inj-of}
 use Rattle.laws.proofs.OrbitLaws.{meets-of, of-meets}
 use Rattle.refusal.specs.declared.Refusal.{Refusal}
-use Rattle.refusal.specs.Order.{refusal, fine, refusedIf, located, refuses, atRow, lowestOf}
+use Rattle.refusal.specs.Order.{refusal, refusedIf, located, refuses, atRow, lowestOf}
 use Rattle.refusal.proofs.OrderLaws.{located-zero, located-at}
 use Rattle.refusal.proofs.JudgedLaws.{Judged}
 use Rattle.side.specs.declared.Successor.{Successor}
 use Rattle.side.specs.declared.Successor.the-variants.{Side, Wrong}
-use Rattle.side.specs.Edges.{outside, edgeOf, right, left, face, link}
-use Rattle.side.specs.Successor.{successor, after, Follows, Fault}
-use Rattle.side.proofs.SuccessorExactly.{not-outside, face-of-right, face-of-left, LinkIn, successor-follows, follows-successor, wrong-fault, fault-wrong, fault-number, wrong-number, successor-side, side-after}
+use Rattle.side.specs.Edges.{outside, edgeOf, face}
+use Rattle.side.specs.Successor.{successor, after, Fault}
+use Rattle.side.proofs.SuccessorExactly.{not-outside, face-of-right, face-of-left, LinkIn, successor-follows, follows-successor, wrong-fault, wrong-number, successor-side, side-after}
 use Rattle.tile.specs.Columns.{Tile, E, F, R, N, sides, mostRows, startSide, emptyStart}
 use Rattle.tile.specs.Check.{slicesUnequal, tooManyRows, sizesWrong, rowOutside, nodeOutside, faceOutside, linkOutside, refusedSide, sideRefusal, firstEdgeWrong, ringFaceOutside, runElsewhere, runWrong, startWrong}
 use Rattle.tile.specs.Facts.{In, Each, LowestFailing, Sizes, NodesIn, FacesIn, LinksIn, Succeeded, OnePredecessor, NoTwoPredecessors, FirstEdgeTouches, RingFaceIn, OneRun, EmptyRing, StartsOnSide, StartRight, Reaches, NotNamedBefore, OnARing}
