@@ -377,7 +377,7 @@ module _ (t : Tile) where
   pub placed : (r : ℕ) → StartsOnSide t r → Placed r (startSide t r)
   placed r h = ⊎-elim (λ w. absurd (w .1 h)) (λ w. w .1) (start-side r)
 
-  start-exactly : (r : ℕ) → (startWrong t r ≡ false) ↔ StartRight t r
+  pub start-exactly : (r : ℕ) → (startWrong t r ≡ false) ↔ StartRight t r
   start-exactly r =
       and-false _ _ (denied (emptyStart t r) (empty-exactly r))
       (
@@ -403,7 +403,7 @@ module _ (t : Tile) where
       λ k. meets-of (after (t .edg)) (sides t) (goes w) (single w o) (startSide t q) (h .pos) (h .within) (k .0) s (k .1),
     )
 
-    named-exactly : (r : ℕ) → In (R t) r → (ltb 0 (owner (after (t .edg)) (sides t) (startSide t) (pred r) (startSide t r)) ≡ false) ↔ NotNamedBefore t r
+    pub named-exactly : (r : ℕ) → In (R t) r → (ltb 0 (owner (after (t .edg)) (sides t) (startSide t) (pred r) (startSide t r)) ≡ false) ↔ NotNamedBefore t r
     named-exactly r i =
         let w =
         none-found (λ q. Reaches t q (startSide t r) → ⊥) (pred r) (λ q. meets (after (t .edg)) (sides t) (startSide t q) (startSide t r))
@@ -413,7 +413,7 @@ module _ (t : Tile) where
     pub judged-named : Judged (located 30 (firstTaken (after (t .edg)) (sides t) (startSide t) (R t))) (Each (R t) (NotNamedBefore t)) (λ n p. (n ≡ 30) × LowestFailing (R t) (NotNamedBefore t) p)
     judged-named = judged-lowest (NotNamedBefore t) (R t) 30 (λ e. omega arith) (λ r. ltb 0 (owner (after (t .edg)) (sides t) (startSide t) (pred r) (startSide t r))) named-exactly
 
-    covered-exactly : (s : ℕ) → In (sides t) s → (eqb (owner (after (t .edg)) (sides t) (startSide t) (R t) s) 0 ≡ false) ↔ OnARing t s
+    pub covered-exactly : (s : ℕ) → In (sides t) s → (eqb (owner (after (t .edg)) (sides t) (startSide t) (R t) s) 0 ≡ false) ↔ OnARing t s
     covered-exactly s i =
         let on : ℕ → Bool = λ q. meets (after (t .edg)) (sides t) (startSide t q) s in
         let exact : (q : ℕ) → In (R t) q → (on q ≡ true) ↔ Reaches t q s = λ q j. meets-exactly q s (start-placed st q j (λ z. omega (arith, z .no-edges))) in
