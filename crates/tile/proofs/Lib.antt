@@ -3,3 +3,4 @@ pub mod InOrder
 pub mod AcceptedExactly
 pub mod RefusedExactly
 pub mod FirstReturn
+pub mod DemandThree
