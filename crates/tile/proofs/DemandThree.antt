@@ -1,31 +1,28 @@
 -- DEMAND 3, of every accepted tile. Assumes nothing.
 use mathlib.Core.Path.{_≡_, refl, sym, ap, _∙_}
-use mathlib.Core.Logic.{by-cases, _⊎_, ⊎-elim}
-use mathlib.Core.Bool.{Bool, true, false, true≢false}
+use mathlib.Core.Logic.{by-cases, ⊎-elim}
+use mathlib.Core.Bool.{Bool, true}
 use mathlib.Core.List.{List}
-use Prim.Native.Nat.{ℕ, zero, suc, pred, _*_, _-_, _≤_, _<_}
-use native.Mathlib.Decide.{decLt, ℕ-discrete}
+use Prim.Native.Nat.{ℕ, zero, suc, pred, _≤_, _<_}
+use native.Mathlib.Decide.{decLt}
 use native.Mathlib.Omega.{arith}
 use borrow.Author.Tests.{eq-eqb, ne-eqb, le-ltb, eqb-false}
-use lib.Dec.{eqb, ltb}
+use lib.Dec.{eqb}
 use lib.ListN.{length}
-use Rattle.laws.specs.Lowest.{lowest}
 use Rattle.laws.specs.Sums.{sum, Inj, Into}
 use Rattle.laws.specs.Orbit.{entry, iterate, firstReturn, meets, owner, firstTaken, firstUnmet}
-use Rattle.laws.specs.Buffer.{listed, front}
-use Rattle.laws.specs.Marks.{ownerAt}
 use Rattle.laws.proofs.LowestLaws.{bool-cases, lowest-none, lowest-pos}
 use Rattle.laws.proofs.SumLaws.{sum-ext}
 use Rattle.laws.proofs.BufferLaws.{length-listed, entry-listed}
 use Rattle.laws.proofs.MarkLaws.{entry-front}
-use Rattle.laws.proofs.OrbitLaws.{iterate-in, closes, returns-to, no-repeat, reduce, meets-of, of-meets, owner-is, owner-on, sum-law}
+use Rattle.laws.proofs.OrbitLaws.{iterate-in, closes, returns-to, no-repeat, reduce, meets-of, of-meets, owner-is, sum-law}
 use Rattle.laws.proofs.TestLaws.{nonzero}
 use Rattle.side.specs.Edges.{face}
 use Rattle.side.specs.Successor.{successor, after}
 use Rattle.side.specs.declared.Successor.the-variants.{Side}
 use Rattle.side.proofs.SuccessorExactly.{not-outside, after-side, successor-side}
 use Rattle.tile.specs.Columns.{Tile, E, R, sides, startSide}
-use Rattle.tile.specs.Check.{sizesWrong, startWrong, verdict, verdictOf, marksLeft, marksAfter}
+use Rattle.tile.specs.Check.{verdict, verdictOf, marksLeft, marksAfter}
 use Rattle.tile.specs.Walk.{moves, walkOf, sideAfter, ringSteps, ringSides}
 use Rattle.tile.specs.Facts.{In, Each, Facts}
 use Rattle.tile.specs.Demand.{Closed, Walks, Stands, OneRing, Demand3}

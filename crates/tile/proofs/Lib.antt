@@ -4,3 +4,5 @@ pub mod AcceptedExactly
 pub mod RefusedExactly
 pub mod FirstReturn
 pub mod DemandThree
+pub mod NoSecondAnswer
+pub mod Examples
