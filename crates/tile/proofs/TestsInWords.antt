@@ -49,12 +49,17 @@ module _ (P : ℕ → Type 0) (n : ℕ) where
         (λ h. rw (located-zero m (lowest b n) (h .0)) (inl (refl, λ k i. exact k i .0 (h .1 .fails k (i .0) (i .1)))))
         (λ h.
         rw (located-at m (lowest b n) (λ e. omega (arith, h .pos)))
-        (inr
-        (some, (refl, record {
-          within = (h .pos, h .within);
-          fails = λ w. true≢false (sym (h .passes) ∙ exact (lowest b n) (h .pos, h .within) .1 w);
-          below = λ k a l. exact k (a, omega (arith, h .within)) .0 (h .below k a l);
-        }))))
+        (inr (
+          some,
+          (
+            refl,
+            record {
+              within = (h .pos, h .within);
+              fails = λ w. true≢false (sym (h .passes) ∙ exact (lowest b n) (h .pos, h .within) .1 w);
+              below = λ k a l. exact k (a, omega (arith, h .within)) .0 (h .below k a l);
+            },
+          ),
+        )))
         (lowest-cases b n)
 
   -- nothing is found exactly where P holds everywhere
@@ -84,9 +89,11 @@ module _ (P : ℕ → Type 0) (n : ℕ) where
         rw (at-row f (lowest (refuses f) n) (h .pos))
         (⊎-elim (λ g. absurd (omega (arith, ltb-true 0 (f r .number) (h .passes), g .0)))
         (λ g.
-        inr
-        (g .0, rw (g .1 .0)
-        (g .1 .1, record { within = (h .pos, h .within); fails = g .1 .2; below = λ k a l. fine-row k (a, omega (arith, h .within)) (h .below k a l) })))
+        inr (
+          g .0,
+          rw (g .1 .0)
+              (g .1 .1, record { within = (h .pos, h .within); fails = g .1 .2; below = λ k a l. fine-row k (a, omega (arith, h .within)) (h .below k a l) }),
+        ))
         (each r (h .pos, h .within))))
         (lowest-cases (refuses f) n)
 
@@ -171,8 +178,7 @@ module _ (t : Tile) where
   pub sizes-exactly : (sizesWrong t ≡ false) ↔ Sizes t
   unfolding sizesWrong
   sizes-exactly =
-      let w = or-false (slicesUnequal t) _ slices-exactly (or-false (tooManyRows t) _ rows-exactly (or-false _ _ (nonzero (F t)) (nonzero (R t)))) in
-      (
+      let w = or-false (slicesUnequal t) _ slices-exactly (or-false (tooManyRows t) _ rows-exactly (or-false _ _ (nonzero (F t)) (nonzero (R t)))) in (
         λ e.
             let h = w .0 e in
             let l = h .0 in
@@ -191,9 +197,10 @@ module _ (t : Tile) where
               node-rows = m .1 .1 .1;
             },
         λ s.
-            w .1
-            ((s .end-node, (s .right-face, (s .left-face, (s .right-edge, (s .left-edge, s .start-edge))))),
-            ((s .edge-rows, (s .face-rows .1, (s .ring-rows .1, s .node-rows))), (s .face-rows .0, s .ring-rows .0))),
+            w .1 (
+              (s .end-node, (s .right-face, (s .left-face, (s .right-edge, (s .left-edge, s .start-edge))))),
+              ((s .edge-rows, (s .face-rows .1, (s .ring-rows .1, s .node-rows))), (s .face-rows .0, s .ring-rows .0)),
+            ),
       )
 
   pub judged-sizes : Judged (refusedIf (sizesWrong t) 15 0) (Sizes t) (λ n p. (n ≡ 15) × (p ≡ 0) × (Sizes t → ⊥))
@@ -236,9 +243,10 @@ module _ (t : Tile) where
       ⊎-elim inl
       (λ h.
       rw (h .2)
-      (inr
-      (λ z. omega (arith, wrong-number (t .edg) s (h .0) (h .1)),
-      (refl, wrong-fault (t .edg) s (h .0) l (h .1), λ w. let z : _≡_ {A = ℕ} 0 1 = cc (follows-successor (t .edg) s (w .0) (w .1), h .1) in omega arith))))
+      (inr (
+        λ z. omega (arith, wrong-number (t .edg) s (h .0) (h .1)),
+        (refl, wrong-fault (t .edg) s (h .0) l (h .1), λ w. let z : _≡_ {A = ℕ} 0 1 = cc (follows-successor (t .edg) s (w .0) (w .1), h .1) in omega arith),
+      )))
       (side-view s (successor (t .edg) s) refl)
 
   pub judged-successors : Each (E t) (LinksIn t) → Judged (lowestOf (sideRefusal t) (sides t)) (Each (sides t) (Succeeded t)) (λ n p. Fault (t .edg) p n × LowestFailing (sides t) (Succeeded t) p)
@@ -303,8 +311,7 @@ module _ (t : Tile) where
   run-exactly : (f : ℕ) → In (F t) f → (runWrong t f ≡ false) ↔ OneRun t f
   run-exactly f i =
       let p = entry (t .ringPtr) f in
-      let w = or-false _ _ (not-unequal (entry (t .facId) p) f) (none-found (Steady (t .facId) f p (i .0)) (R t) (λ r. eqb (entry (t .facId) r) f && runElsewhere t r) (λ r j. steady-exactly f r)) in
-      (
+      let w = or-false _ _ (not-unequal (entry (t .facId) p) f) (none-found (Steady (t .facId) f p (i .0)) (R t) (λ r. eqb (entry (t .facId) r) f && runElsewhere t r) (λ r j. steady-exactly f r)) in (
         λ e.
             let h = w .0 e in
             let b = begins (t .facId) f p (i .0) (h .0) (h .1) in
@@ -318,11 +325,12 @@ module _ (t : Tile) where
               nowhere-else = run-only (t .facId) f p (i .0) (h .0) (h .1);
             },
         λ h.
-            w .1
-            (h .inside p (omega arith) (omega (arith, h .some)),
-            λ r j e.
-            let b = h .nowhere-else r j e in
-            by-cases (ℕ-discrete p r) inr (λ c. inl (h .inside (pred r) (omega arith) (omega arith)))),
+            w .1 (
+              h .inside p (omega arith) (omega (arith, h .some)),
+              λ r j e.
+                  let b = h .nowhere-else r j e in
+                  by-cases (ℕ-discrete p r) inr (λ c. inl (h .inside (pred r) (omega arith) (omega arith))),
+            ),
       )
 
   pub judged-runs : Judged (located 28 (lowest (runWrong t) (F t))) (Each (F t) (OneRun t)) (λ n p. (n ≡ 28) × LowestFailing (F t) (OneRun t) p)
@@ -332,8 +340,7 @@ module _ (t : Tile) where
   pub empty-exactly : (r : ℕ) → (emptyStart t r ≡ true) ↔ EmptyRing t r
   unfolding emptyStart
   empty-exactly r =
-      let w = and-true _ _ (equal (entry (t .startEdge) r) 0) (and-true _ _ (equal (E t) 0) (and-true _ _ (equal (F t) 1) (equal (R t) 1))) in
-      (
+      let w = and-true _ _ (equal (entry (t .startEdge) r) 0) (and-true _ _ (equal (E t) 0) (and-true _ _ (equal (F t) 1) (equal (R t) 1))) in (
         λ e. let h = w .0 e in record { no-start = h .0; no-edges = h .1 .0; one-face = h .1 .1 .0; one-ring = h .1 .1 .1 },
         λ h. w .1 (h .no-start, (h .no-edges, (h .one-face, h .one-ring))),
       )
@@ -366,21 +373,21 @@ module _ (t : Tile) where
       rw (o, a, b) (inr (record { within = i; bears = inr q }, record { pos = omega arith; within = omega arith; bears = q })))
       (λ b.
       rw (o, a, b)
-      (inl
-      (refl,
-      λ h.
-      ⊎-elim
-      (λ q. eqb-false (entry (t .edg .rightFace) e) f a (sym on-right ∙ q))
-      (λ q. eqb-false (entry (t .edg .leftFace) e) f b (sym on-left ∙ q))
-      (h .bears))))))
+      (inl (
+        refl,
+        λ h.
+            ⊎-elim
+            (λ q. eqb-false (entry (t .edg .rightFace) e) f a (sym on-right ∙ q))
+            (λ q. eqb-false (entry (t .edg .leftFace) e) f b (sym on-left ∙ q))
+            (h .bears),
+      )))))
 
   pub placed : (r : ℕ) → StartsOnSide t r → Placed r (startSide t r)
   placed r h = ⊎-elim (λ w. absurd (w .1 h)) (λ w. w .1) (start-side r)
 
   pub start-exactly : (r : ℕ) → (startWrong t r ≡ false) ↔ StartRight t r
   start-exactly r =
-      and-false _ _ (denied (emptyStart t r) (empty-exactly r))
-      (
+      and-false _ _ (denied (emptyStart t r) (empty-exactly r)) (
         λ e. let z = eqb-false (startSide t r) 0 e in ⊎-elim (λ w. absurd (z (w .0))) (λ w. w .0) (start-side r),
         λ h. let q = placed r h in ne-eqb (startSide t r) 0 (λ e. omega (arith, q .pos)),
       )
@@ -416,8 +423,7 @@ module _ (t : Tile) where
     pub covered-exactly : (s : ℕ) → In (sides t) s → (eqb (owner (after (t .edg)) (sides t) (startSide t) (R t) s) 0 ≡ false) ↔ OnARing t s
     covered-exactly s i =
         let on : ℕ → Bool = λ q. meets (after (t .edg)) (sides t) (startSide t q) s in
-        let exact : (q : ℕ) → In (R t) q → (on q ≡ true) ↔ Reaches t q s = λ q j. meets-exactly q s (start-placed st q j (λ z. omega (arith, z .no-edges))) in
-        (
+        let exact : (q : ℕ) → In (R t) q → (on q ≡ true) ↔ Reaches t q s = λ q j. meets-exactly q s (start-placed st q j (λ z. omega (arith, z .no-edges))) in (
           λ e. let h = lowest-pos on (R t) (nonzero _ .0 e) in (lowest on (R t), (h .pos, h .within), exact (lowest on (R t)) (h .pos, h .within) .0 (h .passes)),
           λ h. nonzero _ .1 (lowest-some on (R t) (h .0) (h .1 .0) (h .1 .1) (exact (h .0) (h .1) .1 (h .2))),
         )
