@@ -3,12 +3,13 @@
 use mathlib.Core.Path.{_≡_, refl, sym, ap, _∙_}
 use mathlib.Core.Logic.{by-cases, _≢_}
 use mathlib.Core.List.{List, [], _∷_, _++_, append-assoc}
-use Prim.Native.Nat.{ℕ, zero, suc, _+_, _-_, _≤_, _<_}
+use Prim.Native.Nat.{ℕ, zero, suc, pred, _+_, _-_, _≤_, _<_}
 use native.Mathlib.Numerals.{add-one}
 use native.Mathlib.Decide.{decLt, ℕ-discrete}
 use native.Mathlib.Omega.{arith}
 use lib.ListN.{length, getD, drop, set, length-append, length-drop, length-set, List·getD-append}
 use lib.Seq.{drop-cons, set-at, getD-at, drop-at, getD-append-add, getD-drop, getD-set-same, getD-set-other, ext-getD}
+use Rattle.laws.specs.Orbit.{entry}
 use Rattle.laws.specs.Buffer.{listed, front}
 
 pub length-listed : (g : ℕ → ℕ) (n : ℕ) → length (listed g n) ≡ n
@@ -21,6 +22,11 @@ getD-listed g (suc n) k h =
     by-cases (decLt k n)
     (λ c. List·getD-append (listed g n) (g n ∷ []) 0 k (rw (length-listed g n) c) ∙ getD-listed g n k c)
     (λ c. let q : n ≡ k = omega arith in getD-at (listed g n) (g n) [] 0 k (length-listed g n ∙ q) ∙ ap g q)
+
+-- read as rows are, from 1
+pub entry-listed : (g : ℕ → ℕ) (n i : ℕ) → 0 < i → i ≤ n → entry (listed g n) i ≡ g (pred i)
+entry-listed g n zero a b = absurd (omega arith)
+entry-listed g n (suc i) a b = getD-listed g n i b
 
 pub listed-ext : (g h : ℕ → ℕ) (n : ℕ) → ((k : ℕ) → k < n → g k ≡ h k) → listed g n ≡ listed h n
 listed-ext g h zero e = refl

@@ -1,3 +1,4 @@
+pub mod TestLaws
 pub mod LowestLaws
 pub mod SumLaws
 pub mod BufferLaws

@@ -109,12 +109,24 @@ sum-two p (suc n) i j a b c d e =
     by-cases (decLe j n) (λ l. omega (arith, sum-two p n i j a b l d e))
     (λ l. let q : j ≡ suc n = omega arith in rw (rw q at e) (omega (arith, sum-some p n i a (omega arith) d)))
 
--- no value met twice: the map is injective
-pub inj-of : (f : ℕ → ℕ) (m n : ℕ) → Into f m n → ((s : ℕ) → 0 < s → s ≤ n → hits f m s ≤ 1) → Inj f m
-inj-of f m n g h i j a b c d e =
+-- a value met at most once has at most one place
+pub hits-single : (f : ℕ → ℕ) (m s : ℕ) → hits f m s ≤ 1 → (i j : ℕ) → 0 < i → i ≤ m → 0 < j → j ≤ m → f i ≡ s → f j ≡ s → i ≡ j
+hits-single f m s h i j a b c d u v =
     by-cases (decLt i j)
-    (λ l. absurd (omega (arith, sum-two (λ k. eqb (f j) (f k)) m i j a l d (eq-eqb (f j) (f i) (sym e)) (eq-eqb (f j) (f j) refl), h (f j) (g j c d .0) (g j c d .1))))
+    (λ l. absurd (omega (arith, sum-two (λ k. eqb s (f k)) m i j a l d (eq-eqb s (f i) (sym u)) (eq-eqb s (f j) (sym v)))))
     (λ l.
     by-cases (decLt j i)
-    (λ k. absurd (omega (arith, sum-two (λ k. eqb (f j) (f k)) m j i c k b (eq-eqb (f j) (f j) refl) (eq-eqb (f j) (f i) (sym e)), h (f j) (g j c d .0) (g j c d .1))))
+    (λ k. absurd (omega (arith, sum-two (λ k. eqb s (f k)) m j i c k b (eq-eqb s (f j) (sym v)) (eq-eqb s (f i) (sym u)))))
     (λ k. omega arith))
+
+-- and one that is met has a place
+pub hits-some : (f : ℕ → ℕ) (m s : ℕ) → 0 < hits f m s → (j : ℕ) × (0 < j) × (j ≤ m) × (f j ≡ s)
+hits-some f m s h =
+    ⊎-elim
+    (λ c. absurd (omega (arith, sum-none (λ j. eqb s (f j)) m (c .1 .fails))))
+    (λ c. (lowest (λ j. eqb s (f j)) m, c .pos, c .within, sym (eqb-true s _ (c .passes))))
+    (lowest-cases (λ j. eqb s (f j)) m)
+
+-- no value met twice: the map is injective
+pub inj-of : (f : ℕ → ℕ) (m n : ℕ) → Into f m n → ((s : ℕ) → 0 < s → s ≤ n → hits f m s ≤ 1) → Inj f m
+inj-of f m n g h i j a b c d e = hits-single f m (f j) (h (f j) (g j c d .0) (g j c d .1)) i j a b c d e refl

@@ -1,0 +1,43 @@
+-- What a test says in words where it is false ("nothing is wrong"), for tests joined by "or" and "and".
+-- Assumes nothing.
+use mathlib.Core.Path.{_≡_, refl, sym}
+use mathlib.Core.Logic.{_↔_, _⊎_, inl, inr, ⊎-elim}
+use mathlib.Core.Bool.{Bool, true, false, not, _&&_, _||_, true≢false}
+use Prim.Native.Nat.{ℕ, _≤_, _<_}
+use native.Mathlib.Omega.{arith}
+use borrow.Author.Tests.{eqb-true, eqb-false, eq-eqb, ne-eqb, le-ltb, ltb-false}
+use lib.Dec.{eqb, ltb}
+
+-- ---- joined
+pub or-false : {P Q : Type 0} (a b : Bool) → (a ≡ false) ↔ P → (b ≡ false) ↔ Q → (a || b ≡ false) ↔ (P × Q)
+or-false true b f g = (λ e. absurd (true≢false e), λ h. f .1 (h .0))
+or-false false b f g = (λ e. (f .0 refl, g .0 e), λ h. g .1 (h .1))
+
+pub and-false : {P Q : Type 0} (a b : Bool) → (a ≡ false) ↔ P → (b ≡ false) ↔ Q → (a && b ≡ false) ↔ (P ⊎ Q)
+and-false true b f g = (λ e. inr (g .0 e), ⊎-elim (λ p. absurd (true≢false (f .1 p))) (g .1))
+and-false false b f g = (λ e. inl (f .0 refl), λ h. refl)
+
+pub and-true : {P Q : Type 0} (a b : Bool) → (a ≡ true) ↔ P → (b ≡ true) ↔ Q → (a && b ≡ true) ↔ (P × Q)
+and-true true b f g = (λ e. (f .0 refl, g .0 e), λ h. g .1 (h .1))
+and-true false b f g = (λ e. absurd (true≢false (sym e)), λ h. f .1 (h .0))
+
+pub denied : {P : Type 0} (a : Bool) → (a ≡ true) ↔ P → (not a ≡ false) ↔ P
+denied true f = (λ e. f .0 refl, λ h. refl)
+denied false f = (λ e. absurd (true≢false e), λ h. absurd (true≢false (sym (f .1 h))))
+
+pub refuted : {P : Type 0} (a : Bool) → (a ≡ true) ↔ P → (a ≡ false) ↔ (P → ⊥)
+refuted true f = (λ e. absurd (true≢false e), λ h. absurd (h (f .0 refl)))
+refuted false f = (λ e p. true≢false (sym (f .1 p)), λ h. refl)
+
+-- ---- of numbers
+pub equal : (x y : ℕ) → (eqb x y ≡ true) ↔ (x ≡ y)
+equal x y = (eqb-true x y, eq-eqb x y)
+
+pub not-unequal : (x y : ℕ) → (not (eqb x y) ≡ false) ↔ (x ≡ y)
+not-unequal x y = denied (eqb x y) (equal x y)
+
+pub nonzero : (x : ℕ) → (eqb x 0 ≡ false) ↔ (0 < x)
+nonzero x = (λ e. let z = eqb-false x 0 e in omega arith, λ h. ne-eqb x 0 (λ e. omega arith))
+
+pub not-above : (most x : ℕ) → (ltb most x ≡ false) ↔ (x ≤ most)
+not-above most x = (ltb-false most x, le-ltb most x)

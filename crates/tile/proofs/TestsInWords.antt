@@ -1,0 +1,432 @@
+-- Each test of the check in document 01's words: it refuses nothing exactly where the words hold at every row or side, and else
+-- its number at the lowest row or side where they fail. Assumes nothing.
+use mathlib.Core.Path.{_≡_, refl, sym, ap, _∙_}
+use mathlib.Core.Logic.{_↔_, by-cases, _⊎_, inl, inr, ⊎-elim}
+use mathlib.Core.Bool.{Bool, true, false, not, _&&_, true≢false}
+use mathlib.Core.List.{List}
+use Prim.Native.Nat.{ℕ, zero, suc, pred, _+_, _-_, _%_, _≤_, _<_}
+use native.Mathlib.Decide.{decLe, decLt, ℕ-discrete}
+use native.Mathlib.Omega.{arith}
+use borrow.Author.Tests.{ne-eqb, eqb-true, eqb-false, le-ltb, ltb-true, ltb-false}
+use lib.Dec.{eqb, ltb}
+use lib.ListN.{length, List·getD-eq-default}
+use Rattle.laws.specs.Lowest.{lowest, At}
+use Rattle.laws.specs.Sums.{hits, Inj, Into}
+use Rattle.laws.specs.Orbit.{entry, meets, owner, firstDoubled, firstTaken, firstUnmet}
+use Rattle.laws.proofs.TestLaws.{or-false, and-false, and-true, denied, refuted, equal, not-unequal, nonzero, not-above}
+use Rattle.laws.proofs.LowestLaws.{bool-cases, lowest-cases, lowest-some, lowest-none, lowest-pos, lowest-zero}
+use Rattle.laws.proofs.SumLaws.{sum-most, hits-single, hits-some, hits-one, inj-of}
+use Rattle.laws.proofs.OrbitLaws.{meets-of, of-meets}
+use Rattle.refusal.specs.declared.Refusal.{Refusal}
+use Rattle.refusal.specs.Order.{refusal, refusedIf, located, refuses, atRow, lowestOf}
+use Rattle.refusal.proofs.OrderLaws.{located-zero, located-at}
+use Rattle.refusal.proofs.JudgedLaws.{Judged}
+use Rattle.side.specs.declared.Successor.{Successor}
+use Rattle.side.specs.declared.Successor.the-variants.{Side, Wrong}
+use Rattle.side.specs.Edges.{outside, edgeOf, face}
+use Rattle.side.specs.Successor.{successor, after, Fault}
+use Rattle.side.proofs.SuccessorExactly.{not-outside, face-of-right, face-of-left, LinkIn, successor-follows, follows-successor, wrong-fault, wrong-number, successor-side, side-after}
+use Rattle.tile.specs.Columns.{Tile, E, F, R, N, sides, mostRows, startSide, emptyStart}
+use Rattle.tile.specs.Check.{slicesUnequal, tooManyRows, sizesWrong, rowOutside, nodeOutside, faceOutside, linkOutside, refusedSide, sideRefusal, firstEdgeWrong, ringFaceOutside, runElsewhere, runWrong, startWrong}
+use Rattle.tile.specs.Facts.{In, Each, LowestFailing, Sizes, NodesIn, FacesIn, LinksIn, Succeeded, OnePredecessor, NoTwoPredecessors, FirstEdgeTouches, RingFaceIn, OneRun, EmptyRing, StartsOnSide, StartRight, Reaches, NotNamedBefore, OnARing}
+
+-- ---- "lowest row or side first", for every test of rows or sides: P k is what is asked of k
+module _ (P : ℕ → Type 0) (n : ℕ) where
+  -- the lowest that fails is one, and there is none where all hold
+  pub lowest-one : (p q : ℕ) → LowestFailing n P p → LowestFailing n P q → p ≡ q
+  lowest-one p q a b =
+      by-cases (decLt p q) (λ l. absurd (a .fails (b .below p (a .within .0) l)))
+      (λ l. by-cases (decLt q p) (λ m. absurd (b .fails (a .below q (b .within .0) m))) (λ m. omega arith))
+
+  pub fails-not-each : (p : ℕ) → LowestFailing n P p → Each n P → ⊥
+  fails-not-each p a h = a .fails (h p (a .within))
+
+  -- the lowest that a test b finds, where b says in words that P fails
+  module _ (m : ℕ) (some : m ≡ 0 → ⊥) (b : ℕ → Bool) (exact : (k : ℕ) → In n k → (b k ≡ false) ↔ P k) where
+    pub judged-lowest : Judged (located m (lowest b n)) (Each n P) (λ x p. (x ≡ m) × LowestFailing n P p)
+    judged-lowest =
+        ⊎-elim
+        (λ h. rw (located-zero m (lowest b n) (h .0)) (inl (refl, λ k i. exact k i .0 (h .1 .fails k (i .0) (i .1)))))
+        (λ h.
+        rw (located-at m (lowest b n) (λ e. omega (arith, h .pos)))
+        (inr (
+          some,
+          (
+            refl,
+            record {
+              within = (h .pos, h .within);
+              fails = λ w. true≢false (sym (h .passes) ∙ exact (lowest b n) (h .pos, h .within) .1 w);
+              below = λ k a l. exact k (a, omega (arith, h .within)) .0 (h .below k a l);
+            },
+          ),
+        )))
+        (lowest-cases b n)
+
+  -- nothing is found exactly where P holds everywhere
+  module _ (b : ℕ → Bool) (exact : (k : ℕ) → In n k → (b k ≡ false) ↔ P k) where
+    none-found : (ltb 0 (lowest b n) ≡ false) ↔ Each n P
+    none-found = (
+      λ e k i. exact k i .0 (lowest-zero b n (omega (arith, ltb-false 0 (lowest b n) e)) .fails k (i .0) (i .1)),
+      λ h. le-ltb 0 (lowest b n) (omega (arith, lowest-none b n (λ k u v. exact k (u, v) .1 (h k (u, v))))),
+    )
+
+  -- the lowest of which a refusal is made, each place judged by itself
+  at-row : (f : ℕ → Refusal) (r : ℕ) → 0 < r → atRow f r ≡ f r
+  at-row f zero h = absurd (omega arith)
+  at-row f (suc r) h = refl
+
+  module _ (Q : ℕ → ℕ → Type 0) (f : ℕ → Refusal) (each : (k : ℕ) → In n k → Judged (f k) (P k) (λ m p. (p ≡ k) × Q k m × (P k → ⊥))) where
+    fine-row : (k : ℕ) → In n k → refuses f k ≡ false → P k
+    fine-row k i e = ⊎-elim (λ h. h .1) (λ h. absurd (h .0 (omega (arith, ltb-false 0 (f k .number) e)))) (each k i)
+
+    pub judged-lowest-of : Judged (lowestOf f n) (Each n P) (λ m p. Q p m × LowestFailing n P p)
+    unfolding lowestOf
+    judged-lowest-of =
+        ⊎-elim
+        (λ h. rw (h .0) (inl (refl, λ k i. fine-row k i (h .1 .fails k (i .0) (i .1)))))
+        (λ h.
+        let r = lowest (refuses f) n in
+        rw (at-row f (lowest (refuses f) n) (h .pos))
+        (⊎-elim (λ g. absurd (omega (arith, ltb-true 0 (f r .number) (h .passes), g .0)))
+        (λ g.
+        inr (
+          g .0,
+          rw (g .1 .0)
+              (g .1 .1, record { within = (h .pos, h .within); fails = g .1 .2; below = λ k a l. fine-row k (a, omega (arith, h .within)) (h .below k a l) }),
+        ))
+        (each r (h .pos, h .within))))
+        (lowest-cases (refuses f) n)
+
+-- a test that asks one thing
+judged-once : (b : Bool) (m p : ℕ) (P : Type 0) (Q : Type 0) → (m ≡ 0 → ⊥) → (b ≡ false → P) → (b ≡ true → Q) → Judged (refusedIf b m p) P (λ x y. (x ≡ m) × (y ≡ p) × Q)
+judged-once true m p P Q some f g = inr (some, (refl, refl, g refl))
+judged-once false m p P Q some f g = inl (refl, f refl)
+
+-- a row that is not 0 is a row of the list
+entry-in : (l : List ℕ) (r : ℕ) → 0 < entry l r → In (length l) r
+entry-in l zero h = absurd (omega arith)
+entry-in l (suc r) h = by-cases (decLt r (length l)) (λ c. (omega arith, omega arith)) (λ c. absurd (omega (arith, List·getD-eq-default l 0 {n = r} (omega arith))))
+
+-- ---- the rows of a list that hold f are one run from row p on, where row p holds it, and no other row that holds it follows a
+-- row that does not
+module _ (l : List ℕ) (f p : ℕ) (pos : 0 < f) where
+  abbrev Steady : ℕ → Type 0
+  Steady r = entry l r ≡ f → (entry l (pred r) ≡ f) ⊎ (p ≡ r)
+
+  -- from a row that holds f down to row q, while none above q is p
+  down : Each (length l) Steady → (r : ℕ) → r ≤ length l → entry l r ≡ f → (q : ℕ) → q ≤ r → ((i : ℕ) → q < i → i ≤ r → p ≡ i → ⊥) → entry l q ≡ f
+  down st zero a e q b none = let z : q ≡ 0 = omega arith in rw z e
+  down st (suc r) a e q b none =
+      by-cases (decLe q r)
+      (λ c.
+      ⊎-elim
+      (λ h. down st r (omega arith) h q c (λ i u v. none i u (omega arith)))
+      (λ h. absurd (none (suc r) (omega arith) (omega arith) h))
+      (st (suc r) (omega arith, a) e))
+      (λ c. let z : q ≡ suc r = omega arith in rw z e)
+
+  -- the rows of the run: up to the first after p that holds another number, the one past the end at the latest
+  abbrev other : ℕ → Bool
+  other j = not (eqb (entry l (p + j)) f)
+
+  abbrev run : ℕ
+  run = lowest other (suc (length l) - p)
+
+  module _ (h : entry l p ≡ f) (st : Each (length l) Steady) where
+    begins : In (length l) p
+    begins = entry-in l p (rw h pos)
+
+    run-at : At other (suc (length l) - p) run
+    run-at =
+        let b = begins in
+        let n = suc (length l) - p in
+        let q : p + n ≡ suc (length l) = omega arith in
+        let z : entry l (p + n) ≡ 0 = ap (entry l) q ∙ List·getD-eq-default l 0 {n = length l} (omega arith) in
+        lowest-pos other n (lowest-some other n n (omega arith) (omega arith) (rw (z, ne-eqb 0 f (λ e. omega arith))))
+
+    run-inside : (r : ℕ) → p ≤ r → r < p + run → entry l r ≡ f
+    run-inside r a b =
+        by-cases (ℕ-discrete p r) (λ e. ap (entry l) (sym e) ∙ h)
+        (λ e.
+        let q : r ≡ p + (r - p) = omega arith in
+        ap (entry l) q ∙ not-unequal (entry l (p + (r - p))) f .0 (run-at .below (r - p) (omega arith) (omega arith)))
+
+    run-only : (r : ℕ) → In (length l) r → entry l r ≡ f → (p ≤ r) × (r < p + run)
+    run-only r i e = (
+      by-cases (decLe p r) (λ c. c) (λ c. absurd (omega (arith, down st r (i .1) e 0 (omega arith) (λ i u v z. omega arith)))),
+      by-cases (decLt r (p + run)) (λ c. c)
+          (λ c.
+          let d = down st r (i .1) e (p + run) (omega arith) (λ i u v z. omega arith) in
+          absurd (true≢false (sym (run-at .passes) ∙ not-unequal (entry l (p + run)) f .1 d))),
+    )
+
+module _ (t : Tile) where
+  -- ---- 15
+  slices-exactly : (slicesUnequal t ≡ false)
+      ↔ ((length (t .edg .endNode) ≡ E t) × ((length (t .edg .rightFace) ≡ E t) × ((length (t .edg .leftFace) ≡ E t)
+      × ((length (t .edg .rightEdge) ≡ E t) × ((length (t .edg .leftEdge) ≡ E t) × (length (t .startEdge) ≡ R t))))))
+  unfolding slicesUnequal
+  slices-exactly =
+      or-false _ _ (not-unequal _ _)
+      (or-false _ _ (not-unequal _ _)
+      (or-false _ _ (not-unequal _ _) (or-false _ _ (not-unequal _ _) (or-false _ _ (not-unequal _ _) (not-unequal _ _)))))
+
+  rows-exactly : (tooManyRows t ≡ false) ↔ ((E t ≤ mostRows) × ((F t ≤ mostRows) × ((R t ≤ mostRows) × (N t ≤ mostRows))))
+  unfolding tooManyRows
+  rows-exactly = or-false _ _ (not-above _ _) (or-false _ _ (not-above _ _) (or-false _ _ (not-above _ _) (not-above _ _)))
+
+  pub sizes-exactly : (sizesWrong t ≡ false) ↔ Sizes t
+  unfolding sizesWrong
+  sizes-exactly =
+      let w = or-false (slicesUnequal t) _ slices-exactly (or-false (tooManyRows t) _ rows-exactly (or-false _ _ (nonzero (F t)) (nonzero (R t)))) in (
+        λ e.
+            let h = w .0 e in
+            let l = h .0 in
+            let m = h .1 .0 in
+            let z = h .1 .1 in
+            record {
+              end-node = l .0;
+              right-face = l .1 .0;
+              left-face = l .1 .1 .0;
+              right-edge = l .1 .1 .1 .0;
+              left-edge = l .1 .1 .1 .1 .0;
+              start-edge = l .1 .1 .1 .1 .1;
+              edge-rows = m .0;
+              face-rows = (z .0, m .1 .0);
+              ring-rows = (z .1, m .1 .1 .0);
+              node-rows = m .1 .1 .1;
+            },
+        λ s.
+            w .1 (
+              (s .end-node, (s .right-face, (s .left-face, (s .right-edge, (s .left-edge, s .start-edge))))),
+              ((s .edge-rows, (s .face-rows .1, (s .ring-rows .1, s .node-rows))), (s .face-rows .0, s .ring-rows .0)),
+            ),
+      )
+
+  pub judged-sizes : Judged (refusedIf (sizesWrong t) 15 0) (Sizes t) (λ n p. (n ≡ 15) × (p ≡ 0) × (Sizes t → ⊥))
+  judged-sizes = judged-once (sizesWrong t) 15 0 (Sizes t) (Sizes t → ⊥) (λ e. omega arith) (sizes-exactly .0) (λ e s. true≢false (sym e ∙ sizes-exactly .1 s))
+
+  -- ---- 14
+  pub judged-space : (space : ℕ) → Judged (refusedIf (ltb space (sides t)) 14 (sides t)) (sides t ≤ space) (λ n p. (n ≡ 14) × (p ≡ sides t) × (space < sides t))
+  judged-space space = judged-once (ltb space (sides t)) 14 (sides t) (sides t ≤ space) (space < sides t) (λ e. omega arith) (ltb-false space (sides t)) (ltb-true space (sides t))
+
+  -- ---- 20, 21, 22: both numbers of a row in 1..most
+  row-exactly : (most : ℕ) (a b : List ℕ) (e : ℕ) → (rowOutside most a b e ≡ false) ↔ (In most (entry a e) × In most (entry b e))
+  row-exactly most a b e = or-false _ _ (not-outside most (entry a e)) (not-outside most (entry b e))
+
+  pub judged-nodes : Judged (located 20 (lowest (nodeOutside t) (E t))) (Each (E t) (NodesIn t)) (λ n p. (n ≡ 20) × LowestFailing (E t) (NodesIn t) p)
+  judged-nodes = judged-lowest (NodesIn t) (E t) 20 (λ e. omega arith) (nodeOutside t) (λ k i. row-exactly (N t) (t .edg .startNode) (t .edg .endNode) k)
+
+  pub judged-faces : Judged (located 21 (lowest (faceOutside t) (E t))) (Each (E t) (FacesIn t)) (λ n p. (n ≡ 21) × LowestFailing (E t) (FacesIn t) p)
+  judged-faces = judged-lowest (FacesIn t) (E t) 21 (λ e. omega arith) (faceOutside t) (λ k i. row-exactly (F t) (t .edg .rightFace) (t .edg .leftFace) k)
+
+  pub judged-links : Judged (located 22 (lowest (linkOutside t) (E t))) (Each (E t) (LinksIn t)) (λ n p. (n ≡ 22) × LowestFailing (E t) (LinksIn t) p)
+  judged-links = judged-lowest (LinksIn t) (E t) 22 (λ e. omega arith) (linkOutside t) (λ k i. row-exactly (E t) (t .edg .rightEdge) (t .edg .leftEdge) k)
+
+  -- ---- 23, 24, 25
+  -- the links of all rows are the links of all sides
+  pub link-in : Each (E t) (LinksIn t) → (s : ℕ) → In (sides t) s → LinkIn (t .edg) s
+  link-in h s i =
+      let l = h (edgeOf s) (omega arith, omega arith) in
+      bool-cases (eqb (s % 2) 1) (λ c. rw c (l .0)) (λ c. rw c (l .1))
+
+  succeeded : (s u : ℕ) → successor (t .edg) s ≡ Side u → Succeeded t s
+  succeeded s u e = (u, successor-follows (t .edg) s u e)
+
+  -- the refusal of one side
+  side-view : (s : ℕ) (c : Successor) → successor (t .edg) s ≡ c → ((refusedSide s c .number ≡ 0) × Succeeded t s) ⊎ ((n : ℕ) × (successor (t .edg) s ≡ Wrong n) × (refusedSide s c ≡ refusal n s))
+  side-view s (Side u) e = inl (refl, succeeded s u e)
+  side-view s (Wrong n) e = inr (n, e, refl)
+
+  judged-side : (s : ℕ) → LinkIn (t .edg) s → Judged (sideRefusal t s) (Succeeded t s) (λ n p. (p ≡ s) × Fault (t .edg) s n × (Succeeded t s → ⊥))
+  judged-side s l =
+      ⊎-elim inl
+      (λ h.
+      rw (h .2)
+      (inr (
+        λ z. omega (arith, wrong-number (t .edg) s (h .0) (h .1)),
+        (refl, wrong-fault (t .edg) s (h .0) l (h .1), λ w. let z : _≡_ {A = ℕ} 0 1 = cc (follows-successor (t .edg) s (w .0) (w .1), h .1) in omega arith),
+      )))
+      (side-view s (successor (t .edg) s) refl)
+
+  pub judged-successors : Each (E t) (LinksIn t) → Judged (lowestOf (sideRefusal t) (sides t)) (Each (sides t) (Succeeded t)) (λ n p. Fault (t .edg) p n × LowestFailing (sides t) (Succeeded t) p)
+  judged-successors l = judged-lowest-of (Succeeded t) (sides t) (λ s n. Fault (t .edg) s n) (sideRefusal t) (λ s i. judged-side s (link-in l s i))
+
+  -- ---- 26: where every side has a successor, the successor is a function on 1..2E
+  pub goes : Each (sides t) (Succeeded t) → Into (after (t .edg)) (sides t) (sides t)
+  goes h s a b =
+      let w = h s (a, b) in
+      let e = follows-successor (t .edg) s (w .0) (w .1) in
+      let q = successor-side (t .edg) s (w .0) e in
+      rw (side-after (t .edg) s (w .0) e) (q .pos, q .within)
+
+  at-most-one : (s : ℕ) → (ltb 1 (hits (after (t .edg)) (sides t) s) ≡ false) ↔ NoTwoPredecessors t s
+  at-most-one s = (
+    λ e p q a b u v. hits-single (after (t .edg)) (sides t) s (ltb-false 1 _ e) p q (a .0) (a .1) (b .0) (b .1) u v,
+    λ h.
+        le-ltb 1 _
+        (sum-most (λ j. eqb s (after (t .edg) j)) (sides t)
+        (λ i j a b c d u v. h i j (a, b) (c, d) (sym (eqb-true s _ u)) (sym (eqb-true s _ v)))),
+  )
+
+  -- no side with two predecessors: each has exactly one, by counting
+  pub one-predecessor : Each (sides t) (Succeeded t) → Each (sides t) (NoTwoPredecessors t) → Each (sides t) (OnePredecessor t)
+  one-predecessor w h s i =
+      let f = after (t .edg) in
+      let g = inj-of f (sides t) (sides t) (goes w) (λ s a b. ltb-false 1 _ (at-most-one s .1 (h s (a, b)))) in
+      let p = hits-some f (sides t) s (omega (arith, hits-one f (sides t) (goes w) g s (i .0) (i .1))) in
+      record { predecessor = p .0; within = (p .1, p .2); precedes = p .3; only = λ q j e. h s i q (p .0) j (p .1, p .2) e (p .3) }
+
+  pub not-two : (s : ℕ) → OnePredecessor t s → NoTwoPredecessors t s
+  not-two s h p q a b u v = h .only p a u ∙ sym (h .only q b v)
+
+  pub judged-predecessors : Each (sides t) (Succeeded t)
+      → Judged (located 26 (firstDoubled (after (t .edg)) (sides t))) (Each (sides t) (OnePredecessor t)) (λ n p. (n ≡ 26) × LowestFailing (sides t) (NoTwoPredecessors t) p)
+  judged-predecessors w =
+      ⊎-elim (λ h. inl (h .0, one-predecessor w (h .1))) inr
+      (judged-lowest (NoTwoPredecessors t) (sides t) 26 (λ e. omega arith) (λ s. ltb 1 (hits (after (t .edg)) (sides t) s)) (λ s i. at-most-one s))
+
+  -- ---- 27
+  first-edge-exactly : (n : ℕ) → (firstEdgeWrong t n ≡ false) ↔ FirstEdgeTouches t n
+  first-edge-exactly n =
+      let w = or-false _ _ (not-outside (E t) (entry (t .firstEdge) n)) (and-false _ _ (not-unequal (entry (t .edg .startNode) (entry (t .firstEdge) n)) n) (not-unequal (entry (t .edg .endNode) (entry (t .firstEdge) n)) n)) in
+      (λ e. let h = w .0 e in record { within = h .0; touches = h .1 }, λ h. w .1 (h .within, h .touches))
+
+  pub judged-first-edges : Judged (located 27 (lowest (firstEdgeWrong t) (N t))) (Each (N t) (FirstEdgeTouches t)) (λ n p. (n ≡ 27) × LowestFailing (N t) (FirstEdgeTouches t) p)
+  judged-first-edges = judged-lowest (FirstEdgeTouches t) (N t) 27 (λ e. omega arith) (firstEdgeWrong t) (λ n i. first-edge-exactly n)
+
+  -- ---- 28
+  pub judged-ring-faces : Judged (located 28 (lowest (ringFaceOutside t) (R t))) (Each (R t) (RingFaceIn t)) (λ n p. (n ≡ 28) × LowestFailing (R t) (RingFaceIn t) p)
+  judged-ring-faces = judged-lowest (RingFaceIn t) (R t) 28 (λ e. omega arith) (ringFaceOutside t) (λ r i. not-outside (F t) (entry (t .facId) r))
+
+  steady-exactly : (f r : ℕ) → (eqb (entry (t .facId) r) f && runElsewhere t r ≡ false) ↔ (entry (t .facId) r ≡ f → (entry (t .facId) (pred r) ≡ f) ⊎ (entry (t .ringPtr) f ≡ r))
+  steady-exactly f r =
+      bool-cases (eqb (entry (t .facId) r) f)
+      (λ c.
+      let q = eqb-true (entry (t .facId) r) f c in
+      let w = and-false _ _ (not-unequal (entry (t .facId) (pred r)) f) (not-unequal (entry (t .ringPtr) f) r) in
+      rw (c, q) (λ e h. w .0 e, λ h. w .1 (h refl)))
+      (λ c. rw c (λ e h. absurd (eqb-false (entry (t .facId) r) f c h), λ h. refl))
+
+  run-exactly : (f : ℕ) → In (F t) f → (runWrong t f ≡ false) ↔ OneRun t f
+  run-exactly f i =
+      let p = entry (t .ringPtr) f in
+      let w = or-false _ _ (not-unequal (entry (t .facId) p) f) (none-found (Steady (t .facId) f p (i .0)) (R t) (λ r. eqb (entry (t .facId) r) f && runElsewhere t r) (λ r j. steady-exactly f r)) in (
+        λ e.
+            let h = w .0 e in
+            let b = begins (t .facId) f p (i .0) (h .0) (h .1) in
+            let A = run-at (t .facId) f p (i .0) (h .0) (h .1) in
+            record {
+              rows = run (t .facId) f p (i .0);
+              some = A .pos;
+              starts = b .0;
+              ends = omega (arith, A .within);
+              inside = run-inside (t .facId) f p (i .0) (h .0) (h .1);
+              nowhere-else = run-only (t .facId) f p (i .0) (h .0) (h .1);
+            },
+        λ h.
+            w .1 (
+              h .inside p (omega arith) (omega (arith, h .some)),
+              λ r j e.
+                  let b = h .nowhere-else r j e in
+                  by-cases (ℕ-discrete p r) inr (λ c. inl (h .inside (pred r) (omega arith) (omega arith))),
+            ),
+      )
+
+  pub judged-runs : Judged (located 28 (lowest (runWrong t) (F t))) (Each (F t) (OneRun t)) (λ n p. (n ≡ 28) × LowestFailing (F t) (OneRun t) p)
+  judged-runs = judged-lowest (OneRun t) (F t) 28 (λ e. omega arith) (runWrong t) run-exactly
+
+  -- ---- 29
+  pub empty-exactly : (r : ℕ) → (emptyStart t r ≡ true) ↔ EmptyRing t r
+  unfolding emptyStart
+  empty-exactly r =
+      let w = and-true _ _ (equal (entry (t .startEdge) r) 0) (and-true _ _ (equal (E t) 0) (and-true _ _ (equal (F t) 1) (equal (R t) 1))) in (
+        λ e. let h = w .0 e in record { no-start = h .0; no-edges = h .1 .0; one-face = h .1 .1 .0; one-ring = h .1 .1 .1 },
+        λ h. w .1 (h .no-start, (h .no-edges, (h .one-face, h .one-ring))),
+      )
+
+  -- the start side is one of the tile, and "the one with the ring's face"
+  pub record Placed (r s : ℕ) : Type 0 where
+    pub pos : 0 < s
+    pub within : s ≤ sides t
+    pub bears : face (t .edg) s ≡ entry (t .facId) r
+
+  pub start-side : (r : ℕ) → ((startSide t r ≡ 0) × (StartsOnSide t r → ⊥)) ⊎ (StartsOnSide t r × Placed r (startSide t r))
+  unfolding startSide
+  start-side r =
+      let e = entry (t .startEdge) r in
+      let f = entry (t .facId) r in
+      bool-cases (outside (E t) e)
+      (λ o. rw o (inl (refl, λ h. true≢false (sym o ∙ not-outside (E t) e .1 (h .within)))))
+      (λ o.
+      let i = not-outside (E t) e .0 o in
+      let on-right = face-of-right e (i .0) (t .edg) in
+      let on-left = face-of-left e (i .0) (t .edg) in
+      bool-cases (eqb (entry (t .edg .rightFace) e) f)
+      (λ a.
+      let q = on-right ∙ eqb-true (entry (t .edg .rightFace) e) f a in
+      rw (o, a) (inr (record { within = i; bears = inl q }, record { pos = omega arith; within = omega arith; bears = q })))
+      (λ a.
+      bool-cases (eqb (entry (t .edg .leftFace) e) f)
+      (λ b.
+      let q = on-left ∙ eqb-true (entry (t .edg .leftFace) e) f b in
+      rw (o, a, b) (inr (record { within = i; bears = inr q }, record { pos = omega arith; within = omega arith; bears = q })))
+      (λ b.
+      rw (o, a, b)
+      (inl (
+        refl,
+        λ h.
+            ⊎-elim
+            (λ q. eqb-false (entry (t .edg .rightFace) e) f a (sym on-right ∙ q))
+            (λ q. eqb-false (entry (t .edg .leftFace) e) f b (sym on-left ∙ q))
+            (h .bears),
+      )))))
+
+  pub placed : (r : ℕ) → StartsOnSide t r → Placed r (startSide t r)
+  placed r h = ⊎-elim (λ w. absurd (w .1 h)) (λ w. w .1) (start-side r)
+
+  pub start-exactly : (r : ℕ) → (startWrong t r ≡ false) ↔ StartRight t r
+  start-exactly r =
+      and-false _ _ (denied (emptyStart t r) (empty-exactly r)) (
+        λ e. let z = eqb-false (startSide t r) 0 e in ⊎-elim (λ w. absurd (z (w .0))) (λ w. w .0) (start-side r),
+        λ h. let q = placed r h in ne-eqb (startSide t r) 0 (λ e. omega (arith, q .pos)),
+      )
+
+  pub judged-starts : Judged (located 29 (lowest (startWrong t) (R t))) (Each (R t) (StartRight t)) (λ n p. (n ≡ 29) × LowestFailing (R t) (StartRight t) p)
+  judged-starts = judged-lowest (StartRight t) (R t) 29 (λ e. omega arith) (startWrong t) (λ r i. start-exactly r)
+
+  -- where there is no empty ring, every start is a side
+  pub start-placed : Each (R t) (StartRight t) → (r : ℕ) → In (R t) r → (EmptyRing t r → ⊥) → Placed r (startSide t r)
+  start-placed h r i no-empty = ⊎-elim (λ w. absurd (no-empty w)) (placed r) (h r i)
+
+  -- ---- 30, 31: where each side has exactly one predecessor, the walks are cycles, and a side is met within 2E moves or never
+  pub single : Each (sides t) (Succeeded t) → Each (sides t) (OnePredecessor t) → Inj (after (t .edg)) (sides t)
+  single w h i j a b c d e = let g = goes w j c d in not-two (after (t .edg) j) (h (after (t .edg) j) g) i j (a, b) (c, d) e refl
+
+  module _ (w : Each (sides t) (Succeeded t)) (o : Each (sides t) (OnePredecessor t)) (st : Each (R t) (StartRight t)) where
+    meets-exactly : (q s : ℕ) → Placed q (startSide t q) → (meets (after (t .edg)) (sides t) (startSide t q) s ≡ true) ↔ Reaches t q s
+    meets-exactly q s h = (
+      of-meets (after (t .edg)) (sides t) (goes w) (single w o) (startSide t q) (h .pos) (h .within) s,
+      λ k. meets-of (after (t .edg)) (sides t) (goes w) (single w o) (startSide t q) (h .pos) (h .within) (k .0) s (k .1),
+    )
+
+    pub named-exactly : (r : ℕ) → In (R t) r → (ltb 0 (owner (after (t .edg)) (sides t) (startSide t) (pred r) (startSide t r)) ≡ false) ↔ NotNamedBefore t r
+    named-exactly r i =
+        let w =
+        none-found (λ q. Reaches t q (startSide t r) → ⊥) (pred r) (λ q. meets (after (t .edg)) (sides t) (startSide t q) (startSide t r))
+        (λ q j. refuted _ (meets-exactly q (startSide t r) (start-placed st q (j .0, omega arith) (λ z. omega (arith, z .one-ring))))) in
+        (λ e q a b. w .0 e q (a, omega arith), λ h. w .1 (λ q j. h q (j .0) (omega arith)))
+
+    pub judged-named : Judged (located 30 (firstTaken (after (t .edg)) (sides t) (startSide t) (R t))) (Each (R t) (NotNamedBefore t)) (λ n p. (n ≡ 30) × LowestFailing (R t) (NotNamedBefore t) p)
+    judged-named = judged-lowest (NotNamedBefore t) (R t) 30 (λ e. omega arith) (λ r. ltb 0 (owner (after (t .edg)) (sides t) (startSide t) (pred r) (startSide t r))) named-exactly
+
+    pub covered-exactly : (s : ℕ) → In (sides t) s → (eqb (owner (after (t .edg)) (sides t) (startSide t) (R t) s) 0 ≡ false) ↔ OnARing t s
+    covered-exactly s i =
+        let on : ℕ → Bool = λ q. meets (after (t .edg)) (sides t) (startSide t q) s in
+        let exact : (q : ℕ) → In (R t) q → (on q ≡ true) ↔ Reaches t q s = λ q j. meets-exactly q s (start-placed st q j (λ z. omega (arith, z .no-edges))) in (
+          λ e. let h = lowest-pos on (R t) (nonzero _ .0 e) in (lowest on (R t), (h .pos, h .within), exact (lowest on (R t)) (h .pos, h .within) .0 (h .passes)),
+          λ h. nonzero _ .1 (lowest-some on (R t) (h .0) (h .1 .0) (h .1 .1) (exact (h .0) (h .1) .1 (h .2))),
+        )
+
+    pub judged-covered : Judged (located 31 (firstUnmet (after (t .edg)) (sides t) (startSide t) (R t))) (Each (sides t) (OnARing t)) (λ n p. (n ≡ 31) × LowestFailing (sides t) (OnARing t) p)
+    judged-covered = judged-lowest (OnARing t) (sides t) 31 (λ e. omega arith) (λ s. eqb (owner (after (t .edg)) (sides t) (startSide t) (R t) s) 0) covered-exactly
