@@ -1,1 +1,4 @@
 pub mod RoomLaws
+pub mod Reading
+pub mod Exact
+pub mod Verdict

@@ -1,12 +1,13 @@
 -- Reading a wave height byte by byte: "1 to 6 digits, optionally a point and 1 to 3 digits, then only spaces. It becomes whole
 -- thousandths". What this machine reads is what Words.antt says, by the theorems of proofs/Exact.antt.
-use mathlib.Core.Bool.{Bool, true, false, cond}
+use mathlib.Core.Bool.{cond}
 use mathlib.Core.List.{List}
-use Prim.Native.Nat.{ℕ, zero, suc, _+_, _-_, _*_, _^_, _≤_, _<_}
+use Prim.Native.Nat.{ℕ, _+_, _*_, _^_, _≤_, _<_}
 use lib.ListN.{length}
 use lib.Dec.{ltb, leb, eqb}
 use Rattle.laws.specs.Machine.{End, ended, stuck, Next, go, stop, run}
 use Rattle.refusal.specs.Order.{refusal}
+use Rattle.wave.specs.Words.{point, space, firstDigit, lastDigit, mostWhole, mostPart, thousand, digit}
 use Rattle.wave.specs.declared.Kind.{Kind}
 use Rattle.wave.specs.declared.Kind.the-variants.{Digit, Point, Space, Other}
 use Rattle.wave.specs.declared.State.{State}
@@ -16,30 +17,6 @@ use Rattle.wave.specs.declared.Step.the-variants.{Go, Stop}
 use Rattle.wave.specs.declared.Height.{Height}
 use Rattle.wave.specs.declared.Height.the-variants.{Thousandths, Refused}
 
--- the bytes of a wave height
-abbrev pub point : ℕ
-point = 46
-
-abbrev pub space : ℕ
-space = 32
-
-abbrev pub firstDigit : ℕ
-firstDigit = 48
-
-abbrev pub lastDigit : ℕ
-lastDigit = 57
-
--- "1 to 6 digits", "1 to 3 digits"
-abbrev pub mostWhole : ℕ
-mostWhole = 6
-
-abbrev pub mostPart : ℕ
-mostPart = 3
-
--- "whole thousandths"
-abbrev pub thousand : ℕ
-thousand = 1000
-
 -- refusal 16, "text is no wave height"
 abbrev pub noWaveHeight : ℕ
 noWaveHeight = 16
@@ -47,7 +24,7 @@ noWaveHeight = 16
 -- what a byte can be; a digit with the number that it says
 abbrev pub kindOf : ℕ → Kind
 kindOf b =
-    cond (leb firstDigit b) (cond (leb b lastDigit) (Digit (b - firstDigit)) Other)
+    cond (leb firstDigit b) (cond (leb b lastDigit) (Digit (digit b)) Other)
     (cond (eqb b point) Point (cond (eqb b space) Space Other))
 
 -- the thousandths that the digit d says with n digits between the point and it

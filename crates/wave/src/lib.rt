@@ -3,23 +3,28 @@ ghost use mathlib.Core.Path.{_≡_};
 ghost use Prim.Native.Nat.{_≤_};
 ghost use Rattle.wave.specs.Height.{kindOf, stepOf, finishOf, heightOf, Roomy, OneDigit, worthOf};
 ghost use Rattle.wave.specs.Judgement.{judgementOf};
-
 use refusal::Refusal;
 
 // Refusal 16: the text is no wave height.
 const NO_WAVE_HEIGHT: u32 = 16;
 
 const POINT: u8 = b'.';
+
 const SPACE: u8 = b' ';
+
 const FIRST_DIGIT: u8 = b'0';
+
 const LAST_DIGIT: u8 = b'9';
 
 const MOST_WHOLE_DIGITS: u32 = 6;
+
 const MOST_PART_DIGITS: u32 = 3;
 
 // The thousandths of a whole, a tenth and a hundredth.
 const WHOLE: u32 = 1000;
+
 const TENTH: u32 = 100;
+
 const HUNDREDTH: u32 = 10;
 
 // What a byte can be in a wave height; a digit with the number that it says.

@@ -4,50 +4,37 @@ use borrow.Author.Tests.{le-leb, lt-leb}
 use Rattle.wave.specs.Judgement.{judgementOf}
 use Rattle.wave.proofs.passes.Statement.{statement}
 use Rattle.wave.proofs.passes.Tie as tie
-use Rattle.wave.proofs.passes.Reads as reads
-use Rattle.wave.proofs.passes.Lts as lts
-use Rattle.wave.proofs.thousandths.Reads as thousandths-reads
 
--- src/lib.rt:183:11
 thousandths-requires : tie.Need-thousandths-requires
 thousandths-requires c κs = search needs
 
--- src/lib.rt:184:29
 enum-known-most : tie.Need-enum-known-most
 enum-known-most c = search needs
 
--- src/lib.rt:184:44
 thousandths-requires-2 : tie.Need-thousandths-requires-2
 thousandths-requires-2 c κs = search needs
 
--- src/lib.rt:185:33
 enum-known-seen : tie.Need-enum-known-seen
 enum-known-seen c = search needs
 
--- src/lib.rt:190:29
 enum-known-bad : tie.Need-enum-known-bad
 enum-known-bad c = search needs
 
--- src/lib.rt:192:25
 enum-known-bad-2 : tie.Need-enum-known-bad-2
 enum-known-bad-2 c = search needs
 
--- src/lib.rt:180:1
 returns : tie.Need-returns
 unfolding judgementOf
 returns c = simp (le-leb _ _ (c .if1 .taken), sym (c .before .before .before .before .thousandths2 .ensures) ∙ c .before .before .seen .given .1, sym (c .before .before .before .before .before .before .before .before .thousandths .ensures) ∙ c .before .before .before .before .before .before .most .given .1)
 
--- src/lib.rt:180:1
 returns-2 : tie.Need-returns-2
 unfolding judgementOf
 returns-2 c = simp (lt-leb _ _ (c .if1 .left), sym (c .before .before .before .before .thousandths2 .ensures) ∙ c .before .before .seen .given .1, sym (c .before .before .before .before .before .before .before .before .thousandths .ensures) ∙ c .before .before .before .before .before .before .most .given .1)
 
--- src/lib.rt:180:1
 returns-3 : tie.Need-returns-3
 unfolding judgementOf
 returns-3 c = simp (sym (c .before .before .before .thousandths2 .ensures) ∙ c .before .bad .given .1, sym (c .before .before .before .before .before .before .before .thousandths .ensures) ∙ c .before .before .before .before .before .most .given .1)
 
--- src/lib.rt:180:1
 returns-4 : tie.Need-returns-4
 unfolding judgementOf
 returns-4 c = simp (sym (c .before .before .before .thousandths .ensures) ∙ c .before .bad2 .given .1)

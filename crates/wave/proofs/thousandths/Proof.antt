@@ -1,6 +1,6 @@
 use borrow.Author.Needs.{needs}
 use mathlib.Core.Path.{_≡_, refl, sym, ap, _∙_}
-use Prim.Native.Nat.{ℕ, suc, _+_, _-_, _≤_, _<_}
+use Prim.Native.Nat.{_-_, _≤_}
 use native.Mathlib.Omega.{arith}
 use native.Mathlib.Numerals.{add-one}
 use lib.ListN.{length, getD, drop}
@@ -13,12 +13,6 @@ use Rattle.wave.specs.declared.Step.the-variants.{Go, Stop}
 use Rattle.wave.proofs.RoomLaws.{roomy-step, one-digit}
 use Rattle.wave.proofs.thousandths.Statement.{statement}
 use Rattle.wave.proofs.thousandths.Tie as tie
-use Rattle.wave.proofs.thousandths.Reads as reads
-use Rattle.wave.proofs.thousandths.Lts as lts
-use Rattle.refusal.proofs.refuse.Reads as refuse-reads
-use Rattle.wave.proofs.finish.Reads as finish-reads
-use Rattle.wave.proofs.kind_of.Reads as kind-of-reads
-use Rattle.wave.proofs.step_by.Reads as step-by-reads
 
 abbrev Inv-loop : tie.InvT-loop
 Inv-loop text st₀ i₀ st i = (i ≤ length text) × Roomy st × (run machine (drop i text) st i ≡ run machine text start 0)
@@ -26,35 +20,27 @@ Inv-loop text st₀ i₀ st i = (i ≤ length text) × Roomy st × (run machine 
 abbrev μ-loop : tie.MeasureT-loop
 μ-loop text st₀ i₀ st i = length text - i
 
--- src/lib.rt:165:5
 loop-holds : tie.Need-loop-holds Inv-loop μ-loop
 loop-holds c = (search needs, (search needs, search needs), refl)
 
--- src/lib.rt:166:35
 shared-slice-read-kind-of : tie.Need-shared-slice-read-kind-of Inv-loop μ-loop
 shared-slice-read-kind-of c = search needs
 
--- src/lib.rt:166:27
 kind-of-requires : tie.Need-kind-of-requires Inv-loop μ-loop
 kind-of-requires c κs = search needs
 
--- src/lib.rt:166:15
 step-by-requires : tie.Need-step-by-requires Inv-loop μ-loop
 step-by-requires c κs = ((c .before .before .before .loop) .inv .1, rw (c .kind-of .ensures) (one-digit (getD ((c .before .before .before .before .before .args) .text .now) ((c .before .before .before .loop) .i) 0)))
 
--- src/lib.rt:167:22
 enum-known-next : tie.Need-enum-known-next Inv-loop μ-loop
 enum-known-next c = search needs
 
--- src/lib.rt:171:40
 enum-told : tie.Need-enum-told Inv-loop μ-loop
 enum-told c = search needs
 
--- src/lib.rt:171:40
 refuse-requires : tie.Need-refuse-requires Inv-loop μ-loop
 refuse-requires c κs = search needs
 
--- src/lib.rt:171:17
 returns : tie.Need-returns Inv-loop μ-loop
 unfolding heightOf
 returns c =
@@ -63,15 +49,12 @@ returns c =
     let e : stepOf (l .st) (kindOf (getD s (l .i) 0)) ≡ Stop = cc in
     ap (λ (r : Refusal). Refused r) (c .refuse .ensures) ∙ ap (answer (length s)) (sym (run-stop machine s (l .st) (l .i) (search needs) (ap nextOf e)) ∙ l .inv .2)
 
--- src/lib.rt:174:9
 add-i : tie.Need-add-i Inv-loop μ-loop
 add-i c = search needs
 
--- src/lib.rt:165:5
 loop-less : tie.Need-loop-less Inv-loop μ-loop
 loop-less c = search needs
 
--- src/lib.rt:165:5
 loop-again : tie.Need-loop-again Inv-loop μ-loop
 loop-again c =
     let l = (c .before .before .before .before .before .before .before .loop) in
@@ -83,11 +66,9 @@ loop-again c =
       rw add-one (sym (run-next machine s (l .st) (l .i) n (search needs) (ap nextOf e)) ∙ l .inv .2),
     )
 
--- src/lib.rt:176:5
 finish-requires : tie.Need-finish-requires Inv-loop μ-loop
 finish-requires c κs = (c .before .loop) .inv .1
 
--- src/lib.rt:160:1
 returns-2 : tie.Need-returns-2 Inv-loop μ-loop
 unfolding heightOf
 returns-2 c =
