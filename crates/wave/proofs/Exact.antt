@@ -23,7 +23,8 @@ use Rattle.wave.specs.declared.Step.{Step}
 use Rattle.wave.specs.declared.Step.the-variants.{Go, Stop}
 use Rattle.wave.specs.declared.Height.{Height}
 use Rattle.wave.specs.declared.Height.the-variants.{Thousandths, Refused}
-use Rattle.wave.proofs.RoomLaws.{RoomyStep, roomy-step, one-digit}
+use Rattle.wave.proofs.Bytes.{one-digit}
+use Rattle.wave.proofs.RoomLaws.{RoomyStep, roomy-step}
 use Rattle.wave.proofs.Reading.{Final, read, was-left}
 
 -- ---- the machine accepts the wave heights

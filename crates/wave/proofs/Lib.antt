@@ -1,3 +1,4 @@
+pub mod Bytes
 pub mod RoomLaws
 pub mod Reading
 pub mod Exact

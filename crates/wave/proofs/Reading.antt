@@ -6,40 +6,17 @@ use Prim.Native.Nat.{ℕ, zero, suc, _+_, _-_, _*_, _^_, _≤_, _<_}
 use native.Mathlib.Omega.{arith}
 use native.Mathlib.Nat.{zero-add, pow-suc, add-mul, mul-assoc, mul-comm}
 use lib.ListN.{length}
-use lib.Dec.{ltb, leb, eqb}
-use borrow.Author.Tests.{ltb-true, leb-true, eqb-true, le-leb, lt-ltb}
+use lib.Dec.{ltb}
+use borrow.Author.Tests.{ltb-true, lt-ltb}
 use Rattle.laws.specs.Machine.{onNext, Accepts}
-use Rattle.wave.specs.Words.{point, space, firstDigit, lastDigit, mostWhole, mostPart, thousand, IsDigit, IsSpace, Every, digit, number, Fraction, absent, present}
+use Rattle.wave.specs.Words.{point, mostWhole, mostPart, thousand, IsDigit, IsSpace, Every, digit, number, Fraction, absent, present}
 use Rattle.wave.specs.Height.{kindOf, worthOf, stepOf, nextOf, machine, Roomy}
 use Rattle.wave.specs.declared.Kind.{Kind}
-use Rattle.wave.specs.declared.Kind.the-variants.{Digit, Point, Space, Other}
 use Rattle.wave.specs.declared.State.{State}
 use Rattle.wave.specs.declared.State.the-variants.{Whole, Part, Spaces}
 use Rattle.wave.specs.declared.Step.the-variants.{Go, Stop}
-use Rattle.wave.proofs.RoomLaws.{RoomyStep, roomy-step, one-digit}
-
--- ---- bytes
-
--- what a byte is, beside its kind
-data Seen (b : ℕ) : Kind → Type 0 where
-  seen-digit : IsDigit b → Seen b (Digit (digit b))
-  seen-point : b ≡ point → Seen b Point
-  seen-space : b ≡ space → Seen b Space
-  seen-other : Seen b Other
-
-seen : (b : ℕ) → Seen b (kindOf b)
-seen b = by (leb firstDigit b) (leb b lastDigit) (eqb b point) (eqb b space) refl refl refl refl
-  where
-    by : (x y z w : Bool) → leb firstDigit b ≡ x → leb b lastDigit ≡ y → eqb b point ≡ z → eqb b space ≡ w
-        → Seen b (cond x (cond y (Digit (digit b)) Other) (cond z Point (cond w Space Other)))
-    by true true z w e f g h = seen-digit (leb-true firstDigit b e, leb-true b lastDigit f)
-    by true false z w e f g h = seen-other
-    by false y true w e f g h = seen-point (eqb-true b point g)
-    by false y false true e f g h = seen-space (eqb-true b space h)
-    by false y false false e f g h = seen-other
-
-digit-kind : (b : ℕ) → IsDigit b → kindOf b ≡ Digit (digit b)
-digit-kind b d = rw (le-leb firstDigit b (d .0), le-leb b lastDigit (d .1))
+use Rattle.wave.proofs.Bytes.{Seen, seen-digit, seen-point, seen-space, seen-other, seen, digit-kind, one-digit}
+use Rattle.wave.proofs.RoomLaws.{RoomyStep, roomy-step}
 
 -- ---- numbers
 

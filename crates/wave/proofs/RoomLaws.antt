@@ -5,9 +5,10 @@ use native.Mathlib.Omega.{arith}
 use native.Mathlib.Numerals.{add-one}
 use native.Mathlib.Nat.{pow-suc, pow-le-pow-right}
 use mathlib.Core.Bool.{Bool, true, false, cond}
-use lib.Dec.{lit<, ltb, leb, eqb}
-use borrow.Author.Tests.{ltb-true, leb-true}
-use Rattle.wave.specs.Height.{kindOf, worthOf, stepOf, Roomy, OneDigit}
+use lib.Dec.{lit<, ltb, eqb}
+use borrow.Author.Tests.{ltb-true}
+use Rattle.wave.specs.Words.{mostWhole, mostPart}
+use Rattle.wave.specs.Height.{worthOf, stepOf, Roomy, OneDigit}
 use Rattle.wave.specs.declared.Kind.{Kind}
 use Rattle.wave.specs.declared.Kind.the-variants.{Digit, Point, Space, Other}
 use Rattle.wave.specs.declared.State.{State}
@@ -15,31 +16,23 @@ use Rattle.wave.specs.declared.State.the-variants.{Whole, Part, Spaces}
 use Rattle.wave.specs.declared.Step.{Step}
 use Rattle.wave.specs.declared.Step.the-variants.{Go, Stop}
 
-pub ten-room : (n : ℕ) → n ≤ 6 → 10 ^ n ≤ 1000000
-ten-room n h = pow-le-pow-right {n = 10} (lit< tt) {i = n} {j = 6} h
+-- the whole digits say less than a million
+pub ten-room : (n : ℕ) → n ≤ mostWhole → 10 ^ n ≤ 1000000
+ten-room n h = pow-le-pow-right {n = 10} (lit< tt) {i = n} {j = mostWhole} h
 
-pub ten-next : (n : ℕ) → n < 6 → 10 ^ n * 10 ≤ 1000000
+pub ten-next : (n : ℕ) → n < mostWhole → 10 ^ n * 10 ≤ 1000000
 ten-next n h = rw (← pow-suc 10 n) (ten-room (suc n) h)
 
-worth-one-digit : (d n : ℕ) → d ≤ 9 → worthOf d n ≤ 900
-worth-one-digit d n h = two (eqb n 0) (eqb n 1)
+-- a digit after the point says at most 900 thousandths
+worth-room : (d n : ℕ) → d ≤ 9 → worthOf d n ≤ 900
+worth-room d n h = two (eqb n 0) (eqb n 1)
   where
     two : (a b : Bool) → cond a (d * 100) (cond b (d * 10) d) ≤ 900
     two true b = omega arith
     two false true = omega arith
     two false false = omega arith
 
-pub one-digit : (b : ℕ) → OneDigit (kindOf b)
-one-digit b = go (leb 48 b) (leb b 57) refl (eqb b 46) (eqb b 32)
-  where
-    go : (x y : Bool) → leb b 57 ≡ y → (z w : Bool) → OneDigit (cond x (cond y (Digit (b - 48)) Other) (cond z Point (cond w Space Other)))
-    go true true e z w = omega (arith, leb-true b 57 e)
-    go true false e z w = tt
-    go false y e true w = tt
-    go false y e false true = tt
-    go false y e false false = tt
-
--- What the state after a step keeps
+-- the state after a step, if there is one, is as small
 abbrev pub RoomyStep : Step → Type 0
 RoomyStep (Go st) = Roomy st
 RoomyStep Stop = Unit {0}
@@ -50,16 +43,16 @@ on-cond false x h = tt
 
 pub roomy-step : (st : State) (k : Kind) → Roomy st → OneDigit k → RoomyStep (stepOf st k)
 roomy-step (Whole n v) (Digit d) f s =
-    on-cond (ltb n 6) _ (λ t.
-    let h : n < 6 = ltb-true n 6 t in
+    on-cond (ltb n mostWhole) _ (λ t.
+    let h : n < mostWhole = ltb-true n mostWhole t in
     (omega arith, omega (arith, f .1, s, ap (λ (j : ℕ). 10 ^ j) (add-one n), pow-suc 10 n)))
 roomy-step (Whole n v) Point f s = on-cond (ltb 0 n) _ (λ t. omega (arith, f .1, ten-room n (f .0)))
 roomy-step (Whole n v) Space f s = on-cond (ltb 0 n) _ (λ t. tt)
 roomy-step (Whole n v) Other f s = tt
 roomy-step (Part n v) (Digit d) f s =
-    on-cond (ltb n 3) _ (λ t.
-    let h : n < 3 = ltb-true n 3 t in
-    omega (arith, f .1, s, worth-one-digit d n s))
+    on-cond (ltb n mostPart) _ (λ t.
+    let h : n < mostPart = ltb-true n mostPart t in
+    omega (arith, f .1, s, worth-room d n s))
 roomy-step (Part n v) Point f s = tt
 roomy-step (Part n v) Space f s = on-cond (ltb 0 n) _ (λ t. tt)
 roomy-step (Part n v) Other f s = tt

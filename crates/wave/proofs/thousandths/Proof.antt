@@ -10,7 +10,8 @@ use Rattle.refusal.specs.declared.Refusal.{Refusal}
 use Rattle.wave.specs.Height.{Roomy, machine, start, kindOf, stepOf, nextOf, answer, heightOf}
 use Rattle.wave.specs.declared.Height.the-variants.{Refused}
 use Rattle.wave.specs.declared.Step.the-variants.{Go, Stop}
-use Rattle.wave.proofs.RoomLaws.{roomy-step, one-digit}
+use Rattle.wave.proofs.Bytes.{one-digit}
+use Rattle.wave.proofs.RoomLaws.{roomy-step}
 use Rattle.wave.proofs.thousandths.Statement.{statement}
 use Rattle.wave.proofs.thousandths.Tie as tie
 
