@@ -1,0 +1,2 @@
+pub mod TableRule
+pub mod NullRule

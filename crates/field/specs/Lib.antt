@@ -1,0 +1,4 @@
+pub mod Letters
+pub mod Fields
+pub mod Nulls
+pub mod Table

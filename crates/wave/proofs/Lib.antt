@@ -1,0 +1,5 @@
+pub mod Bytes
+pub mod RoomLaws
+pub mod Reading
+pub mod Exact
+pub mod Verdict
