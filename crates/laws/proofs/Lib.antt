@@ -4,3 +4,5 @@ pub mod BufferLaws
 pub mod OrbitLaws
 pub mod MarkLaws
 pub mod MachineLaws
+pub mod TestLaws
+pub mod SeparatorLaws
