@@ -1,4 +1,8 @@
 // The grammar of a header text: a machine that reads it byte by byte.
+ghost use mathlib.Core.Path.{_≡_};
+ghost use Prim.Native.Nat.{_+_, _<_, _^_};
+ghost use Rattle.grammar.specs.Fields.{asks, rule, printable, letter, plain, digit, holds, allowed};
+ghost use Rattle.grammar.specs.Scan.{takes, closes, ends, stars, columnsAfter, move, finish, scanOf};
 
 // The fields of the text in their order; of a column from Name to ColumnEnd.
 pub enum Field {
@@ -60,4 +64,252 @@ pub enum Move {
 pub enum Scan {
     Columns(usize),
     BadByte(usize),
+}
+
+// A row of the table below, in the order of its columns: least and most bytes, which bytes, the byte that closes the field, the
+// field after it, and what is special.
+fn asks_for(least: usize, most: usize, holds: Class, closer: u8, next: Field, special: Special) -> Rule
+    ensures { λ r. ⌜ r ≡ asks least most holds closer next special ⌝ }
+{
+    Rule {
+        least: least,
+        most: most,
+        holds: holds,
+        closer: closer,
+        next: next,
+        special: special,
+    }
+}
+
+// What each field asks.
+fn rule_of(field: Field) -> Rule
+    ensures { λ r. ⌜ r ≡ rule field ⌝ }
+{
+    match field {
+        Field::OrderLetter => asks_for(0, 1, Class::Letters, b';', Field::TableDescription, Special::Usual),
+        Field::TableDescription => asks_for(0, 80, Class::NoSemicolon, b';', Field::TableNarrative, Special::Usual),
+        Field::TableNarrative => asks_for(1, 12, Class::NoSemicolon, b';', Field::Name, Special::Usual),
+        Field::Name => asks_for(1, 24, Class::Plain, b'=', Field::Kind, Special::ColumnsMayEnd),
+        Field::Kind => asks_for(1, 1, Class::Plain, b',', Field::Numeral, Special::Usual),
+        Field::Numeral => asks_for(1, 5, Class::Digits, b',', Field::Key, Special::StarMayStand),
+        Field::AfterStar => asks_for(0, 0, Class::Plain, b',', Field::Key, Special::Usual),
+        Field::Key => asks_for(1, 1, Class::Plain, b',', Field::Description, Special::Usual),
+        Field::Description => asks_for(0, 80, Class::Plain, b',', Field::ValueTable, Special::Usual),
+        Field::ValueTable => asks_for(1, 12, Class::Plain, b',', Field::ThematicIndex, Special::Usual),
+        Field::ThematicIndex => asks_for(1, 12, Class::Plain, b',', Field::Narrative, Special::Usual),
+        Field::Narrative => asks_for(1, 12, Class::Plain, b',', Field::ColumnEnd, Special::Usual),
+        Field::ColumnEnd => asks_for(0, 0, Class::Plain, b':', Field::Name, Special::ColumnIsWhole),
+        Field::TextEnd => asks_for(1, 0, Class::Plain, b';', Field::TextEnd, Special::TextIsWhole),
+    }
+}
+
+fn is_printable(byte: u8) -> bool
+    ensures { λ r. ⌜ r ≡ printable byte ⌝ }
+{
+    if byte < 32 { false } else { byte <= 126 }
+}
+
+fn is_letter(byte: u8) -> bool
+    ensures { λ r. ⌜ r ≡ letter byte ⌝ }
+{
+    if byte == b'L' { true } else { byte == b'M' }
+}
+
+fn is_plain(byte: u8) -> bool
+    ensures { λ r. ⌜ r ≡ plain byte ⌝ }
+{
+    if byte == b';' {
+        false
+    } else if byte == b':' {
+        false
+    } else if byte == b',' {
+        false
+    } else {
+        byte != b'='
+    }
+}
+
+// Whether the byte may stand as digit n of a count, from 0: the first is not `0`.
+fn is_digit(n: usize, byte: u8) -> bool
+    ensures { λ r. ⌜ r ≡ digit n byte ⌝ }
+{
+    if n == 0 {
+        if b'1' <= byte { byte <= b'9' } else { false }
+    } else {
+        if b'0' <= byte { byte <= b'9' } else { false }
+    }
+}
+
+fn class_holds(class: Class, n: usize, byte: u8) -> bool
+    ensures { λ r. ⌜ r ≡ holds class n byte ⌝ }
+{
+    match class {
+        Class::Letters => is_letter(byte),
+        Class::NoSemicolon => byte != b';',
+        Class::Plain => is_plain(byte),
+        Class::Digits => is_digit(n, byte),
+    }
+}
+
+// Whether the byte may stand as byte n, from 0, of a field of the class.
+fn is_allowed(class: Class, n: usize, byte: u8) -> bool
+    ensures { λ r. ⌜ r ≡ allowed class n byte ⌝ }
+{
+    if is_printable(byte) {
+        class_holds(class, n, byte)
+    } else {
+        false
+    }
+}
+
+// Whether the byte is one more of the field, after n of them.
+fn takes_byte(field: Field, n: usize, byte: u8) -> bool
+    ensures { λ r. ⌜ r ≡ takes field n byte ⌝ }
+{
+    let rule = rule_of(field);
+    let most = rule.most;
+    let class = rule.holds;
+    if n < most {
+        is_allowed(class, n, byte)
+    } else {
+        false
+    }
+}
+
+// Whether the byte closes the field after n bytes.
+fn closes_at(field: Field, n: usize, byte: u8) -> bool
+    ensures { λ r. ⌜ r ≡ closes field n byte ⌝ }
+{
+    let rule = rule_of(field);
+    let closer = rule.closer;
+    let least = rule.least;
+    if byte == closer { least <= n } else { false }
+}
+
+// Whether the byte ends the columns: where a name would start, after one column at least.
+fn ends_columns(special: Special, n: usize, cols: usize, byte: u8) -> bool
+    ensures { λ r. ⌜ r ≡ ends special n cols byte ⌝ }
+{
+    match special {
+        Special::ColumnsMayEnd => {
+            if byte == b';' {
+                if n == 0 { 0 < cols } else { false }
+            } else {
+                false
+            }
+        }
+        Special::Usual => false,
+        Special::StarMayStand => false,
+        Special::ColumnIsWhole => false,
+        Special::TextIsWhole => false,
+    }
+}
+
+// Whether the byte is a star that stands for a count.
+fn is_star(special: Special, n: usize, byte: u8) -> bool
+    ensures { λ r. ⌜ r ≡ stars special n byte ⌝ }
+{
+    match special {
+        Special::StarMayStand => {
+            if byte == b'*' { n == 0 } else { false }
+        }
+        Special::Usual => false,
+        Special::ColumnsMayEnd => false,
+        Special::ColumnIsWhole => false,
+        Special::TextIsWhole => false,
+    }
+}
+
+// The columns that are whole once a field is closed.
+fn columns_after(special: Special, cols: usize) -> usize
+    requires { ⌜ cols + 1 < 2 ^ 64 ⌝ }
+    ensures { λ r. ⌜ r ≡ columnsAfter special cols ⌝ }
+{
+    match special {
+        Special::ColumnIsWhole => cols + 1,
+        Special::Usual => cols,
+        Special::ColumnsMayEnd => cols,
+        Special::StarMayStand => cols,
+        Special::TextIsWhole => cols,
+    }
+}
+
+// What the byte does to a reading. No reading of a text has 2^64 - 1 bytes of a field or whole columns behind it.
+fn step(at: Spot, byte: u8) -> Move
+    requires { ⌜ (at .n + 1 < 2 ^ 64) × (at .cols + 1 < 2 ^ 64) ⌝ }
+    ensures { λ r. ⌜ r ≡ move at byte ⌝ }
+{
+    let field = at.field;
+    let n = at.n;
+    let cols = at.cols;
+    let rule = rule_of(field);
+    let next = rule.next;
+    let special = rule.special;
+    if takes_byte(field, n, byte) {
+        Move::To(Spot {
+            field: field,
+            n: n + 1,
+            cols: cols,
+        })
+    } else if closes_at(field, n, byte) {
+        Move::To(Spot {
+            field: next,
+            n: 0,
+            cols: columns_after(special, cols),
+        })
+    } else if ends_columns(special, n, cols, byte) {
+        Move::To(Spot {
+            field: Field::TextEnd,
+            n: 0,
+            cols: cols,
+        })
+    } else if is_star(special, n, byte) {
+        Move::To(Spot {
+            field: Field::AfterStar,
+            n: 0,
+            cols: cols,
+        })
+    } else {
+        Move::Stop
+    }
+}
+
+// What a reading that stands at the end of its text, of n bytes, has found.
+fn finish_at(n: usize, special: Special, cols: usize) -> Scan
+    ensures { λ r. ⌜ r ≡ finish n special cols ⌝ }
+{
+    match special {
+        Special::TextIsWhole => Scan::Columns(cols),
+        Special::Usual => Scan::BadByte(n),
+        Special::ColumnsMayEnd => Scan::BadByte(n),
+        Special::StarMayStand => Scan::BadByte(n),
+        Special::ColumnIsWhole => Scan::BadByte(n),
+    }
+}
+
+// The number of columns of a header text, or the first byte that cannot continue: the text's length where it ends too soon.
+pub fn scan_text(text: &[u8]) -> Scan
+    ensures { λ r. ⌜ r ≡ scanOf (now (text .entry)) ⌝ }
+{
+    let mut at = Spot {
+        field: Field::OrderLetter,
+        n: 0,
+        cols: 0,
+    };
+    let mut i = 0;
+    while i < text.len() {
+        match step(at, text[i]) {
+            Move::To(next) => {
+                at = next;
+            }
+            Move::Stop => {
+                return Scan::BadByte(i);
+            }
+        }
+        i += 1;
+    }
+    let field = at.field;
+    let rule = rule_of(field);
+    let special = rule.special;
+    finish_at(i, special, at.cols)
 }

@@ -6,3 +6,4 @@ pub mod OrbitLaws
 pub mod MarkLaws
 pub mod MachineLaws
 pub mod LanguageLaws
+pub mod SeparatorLaws

@@ -2,7 +2,7 @@
 -- Assumes nothing.
 use mathlib.Core.Path.{_≡_, refl, sym}
 use mathlib.Core.Logic.{_↔_, _⊎_, inl, inr, ⊎-elim}
-use mathlib.Core.Bool.{Bool, true, false, not, _&&_, _||_, true≢false}
+use mathlib.Core.Bool.{Bool, true, false, cond, not, _&&_, _||_, true≢false}
 use Prim.Native.Nat.{ℕ, _≤_, _<_}
 use native.Mathlib.Omega.{arith}
 use borrow.Author.Tests.{eqb-true, eqb-false, eq-eqb, ne-eqb, le-ltb, ltb-false}
@@ -41,3 +41,18 @@ nonzero x = (λ e. let z = eqb-false x 0 e in omega arith, λ h. ne-eqb x 0 (λ 
 
 pub not-above : (most x : ℕ) → (ltb most x ≡ false) ↔ (x ≤ most)
 not-above most x = (ltb-false most x, le-ltb most x)
+
+-- ---- asked one after the other
+-- both, where the second is asked only if the first holds
+pub both-true : (x y : Bool) → cond x y false ≡ true → (x ≡ true) × (y ≡ true)
+both-true true y e = (refl, e)
+both-true false y e = absurd (true≢false (sym e))
+
+-- the second, where the first does not hold
+pub neither-true : (x y : Bool) → cond x false y ≡ true → (x ≡ false) × (y ≡ true)
+neither-true true y e = absurd (true≢false (sym e))
+neither-true false y e = (refl, e)
+
+pub cond-same : (x y : Bool) → cond x y y ≡ y
+cond-same true y = refl
+cond-same false y = refl

@@ -1,0 +1,16 @@
+use borrow.Author.Needs.{needs}
+use borrow.Author.Tests.{eq-eqb, ne-eqb}
+use Rattle.grammar.specs.Fields.{letter}
+use Rattle.grammar.proofs.is_letter.Statement.{statement}
+use Rattle.grammar.proofs.is_letter.Tie as tie
+
+returns : tie.Need-returns
+unfolding letter
+returns c = simp (eq-eqb _ _ (c .if1 .taken))
+
+returns-2 : tie.Need-returns-2
+unfolding letter
+returns-2 c = simp (ne-eqb _ _ (c .if1 .left))
+
+pub is-letter-spec : {M : Type 1} → statement M
+is-letter-spec = tie.close (tie.spec returns returns-2)
