@@ -1,0 +1,143 @@
+-- Rows: where row i lies, its fields one column after the other, and its judgement.
+use mathlib.Core.Bool.{Bool, true, false, cond, not}
+use mathlib.Core.List.{List, [], _∷_}
+use Prim.Native.Nat.{ℕ, zero, suc, pred, min, _+_, _-_, _*_}
+use lib.Dec.{eqb, ltb, leb}
+use lib.ListN.{length, getD, set, take, drop, replicate}
+use Rattle.refusal.specs.declared.Refusal.{Refusal}
+use Rattle.refusal.specs.Order.{refusal, fine, refusedIf, firstOf}
+use Rattle.number.specs.declared.Order.{Order}
+use Rattle.number.specs.Bytes.{number}
+use Rattle.field.specs.declared.FieldType.{FieldType}
+use Rattle.field.specs.Fields.{widthOf, isTriplet}
+use Rattle.triplet.specs.declared.Triplet.{Triplet}
+use Rattle.triplet.specs.declared.Triplet.the-variants as triplet
+use Rattle.triplet.specs.Triplet.{tripletOf}
+use Rattle.header.specs.declared.Layout.{Layout}
+use Rattle.header.specs.declared.ColumnLayout.{ColumnLayout}
+use Rattle.header.specs.Judge.{mostColumns}
+use Rattle.header.specs.Layouts.{blankColumn}
+use Rattle.table.specs.declared.Table.{Table}
+use Rattle.table.specs.declared.Reach.{Reach}
+use Rattle.table.specs.declared.Reach.the-variants.{At, Short, Cut}
+use Rattle.table.specs.declared.Places.{Places}
+use Rattle.table.specs.declared.Row.{Row}
+use Rattle.table.specs.declared.Row.the-variants.{Between, Refused}
+use Rattle.table.specs.Opening.{mostRows, needsIndex, endAt}
+
+-- rows and columns that a table has, whoever made it
+abbrev pub rowsOf : Table → ℕ
+rowsOf t = min (t .rows) mostRows
+
+abbrev pub columnsOf : Layout → ℕ
+columnsOf l = min (l .columns) mostColumns
+
+-- column k of a layout, from 1
+abbrev pub columnAt : Layout → ℕ → ColumnLayout
+columnAt l k = getD (l .cols) (pred k) blankColumn
+
+-- where row k ends, and row k + 1 starts: k widths on, or by its entry
+unfoldable pub boundOf : Layout → List ℕ → ℕ → ℕ
+boundOf l index k = cond (eqb (l .width) 0) (endAt l index k) (l .start + l .width * k)
+
+-- ---- fields
+
+-- so many bytes
+unfoldable pub plainEnd : ℕ → ℕ → ℕ → Reach
+plainEnd at end need = cond (leb need (end - at)) (At (at + need)) Short
+
+-- "A `*` field begins with an unsigned four-byte count of its elements; zero is allowed."
+unfoldable pub starEnd : Order → List ℕ → ℕ → ℕ → ℕ → Reach
+starEnd o s at end width = cond (ltb (end - at) 4) Short (plainEnd (at + 4) end (number o s at 4 * width))
+
+abbrev pub pastTriplet : ℕ → Triplet → Reach
+pastTriplet at (triplet.Is ids n) = At (at + n)
+pastTriplet at (triplet.Refused q) = Cut (q .place)
+
+unfoldable pub tripletEnd : Order → List ℕ → ℕ → ℕ → Reach
+tripletEnd o s at end = pastTriplet at (tripletOf o (take (end - at) (drop at s)))
+
+-- the field of a column that starts at the place `at` of a row that ends at `end`
+unfoldable pub fieldEnd : Order → List ℕ → ℕ → ColumnLayout → ℕ → Reach
+fieldEnd o s end c at =
+    cond (isTriplet (c .kind)) (tripletEnd o s at end)
+    (cond (c .star) (starEnd o s at end (widthOf (c .kind))) (plainEnd at end (c .size)))
+
+abbrev pub onward : Reach → (ℕ → Reach) → Reach
+onward (At p) f = f p
+onward Short f = Short
+onward (Cut q) f = Cut q
+
+-- past the columns 1..n of a row: each starts where the last ended
+abbrev pub reach : List ℕ → Layout → ℕ → ℕ → ℕ → Reach
+reach s l start end zero = At start
+reach s l start end (suc n) = onward (reach s l start end n) (λ p. fieldEnd (l .order) s end (columnAt l (suc n)) p)
+
+-- where column k starts, 0 where the walk stopped before it
+abbrev pub placeOf : Reach → ℕ
+placeOf (At p) = p
+placeOf Short = 0
+placeOf (Cut q) = 0
+
+abbrev pub placeOfColumn : List ℕ → Layout → ℕ → ℕ → ℕ → ℕ
+placeOfColumn s l start end k = placeOf (reach s l start end (pred k))
+
+-- ---- one walk that keeps the places asked for: slot `slots k` keeps where column k starts; slot 0 is nobody's
+abbrev pub noPlaces : List ℕ
+noPlaces = replicate 8 0
+
+abbrev pub slotOf : List ℕ → ℕ → ℕ
+slotOf slots k = getD slots (pred k) 0
+
+abbrev pub keep : List ℕ → List ℕ → ℕ → Reach → List ℕ
+keep at slots k (At p) = set at (slotOf slots k) p
+keep at slots k Short = at
+keep at slots k (Cut q) = at
+
+abbrev pub placesKept : List ℕ → Layout → ℕ → ℕ → List ℕ → ℕ → List ℕ
+placesKept s l start end slots zero = noPlaces
+placesKept s l start end slots (suc n) = keep (placesKept s l start end slots n) slots (suc n) (reach s l start end n)
+
+unfoldable pub placesOf : List ℕ → Layout → ℕ → ℕ → List ℕ → Places
+placesOf s l start end slots =
+    record { reach = reach s l start end (columnsOf l); at = placesKept s l start end slots (columnsOf l) }
+
+-- ---- the judgement
+
+-- the id of a row whose id column starts at the place p
+abbrev pub idAt : List ℕ → Layout → ℕ → ℕ
+idAt s l p = number (l .order) s p 4
+
+abbrev pub idRefusal : List ℕ → Layout → ℕ → ℕ → Refusal
+idRefusal s l p i = refusedIf (not (eqb (idAt s l p) i)) 9 i
+
+-- "Within a row, 10 and 11 by column order (a cut triplet is 11), then 9"; 10 too where the row is not used up
+abbrev pub usedUp : Reach → ℕ → ℕ → Refusal → Refusal
+usedUp (At p) end i rest = cond (eqb p end) rest (refusal 10 i)
+usedUp Short end i rest = refusal 10 i
+usedUp (Cut q) end i rest = refusal 11 q
+
+-- where column k starts in the row: by its offset where all rows have one width, else past the fields before it
+unfoldable pub columnPlace : List ℕ → Layout → ℕ → ℕ → ℕ → ℕ
+columnPlace s l start end k = cond (needsIndex l) (placeOfColumn s l start end k) (start + columnAt l k .offset)
+
+-- row i lies from start to end. A row of fixed width has its fields' bytes by the opening: only its id is left to judge
+unfoldable pub rowRefusal : List ℕ → Layout → ℕ → ℕ → ℕ → Refusal
+rowRefusal s l start end i =
+    cond (ltb (length s) end) (refusal 10 i)
+    (cond (ltb end start) (refusal 10 i)
+    (cond (needsIndex l)
+    (usedUp (reach s l start end (columnsOf l)) end i (idRefusal s l (columnPlace s l start end (l .id)) i))
+    (idRefusal s l (columnPlace s l start end (l .id)) i)))
+
+-- "13: no such row"
+abbrev pub noSuchRow : Table → ℕ → Bool
+noSuchRow t i = cond (eqb i 0) true (ltb (rowsOf t) i)
+
+-- THE ROW i of a table: where it lies, or its refusal
+unfoldable pub rowOf : List ℕ → List ℕ → Table → ℕ → Row
+rowOf file index t i =
+    cond (noSuchRow t i) (Refused (refusal 13 i))
+    (cond (eqb (rowRefusal file (t .layout) (boundOf (t .layout) index (pred i)) (boundOf (t .layout) index i) i .number) 0)
+    (Between (boundOf (t .layout) index (pred i)) (boundOf (t .layout) index i))
+    (Refused (rowRefusal file (t .layout) (boundOf (t .layout) index (pred i)) (boundOf (t .layout) index i) i)))

@@ -1,0 +1,99 @@
+-- Values: what the field of a column says, by its type; "Text and date are shown as parts of the caller's file, not copied."
+use mathlib.Core.Bool.{Bool, true, false, cond}
+use mathlib.Core.List.{List, []}
+use Prim.Native.Nat.{ℕ, zero, suc, pred, _+_, _-_, _*_}
+use lib.Dec.{eqb, ltb}
+use lib.ListN.{length, take, drop}
+use Rattle.refusal.specs.declared.Refusal.{Refusal}
+use Rattle.refusal.specs.Order.{refusal}
+use Rattle.number.specs.declared.Order.{Order}
+use Rattle.number.specs.Bytes.{number}
+use Rattle.field.specs.declared.FieldType.{FieldType}
+use Rattle.field.specs.declared.FieldType.the-variants as type
+use Rattle.field.specs.Fields.{widthOf}
+use Rattle.field.specs.Nulls.{shortHalf, integerHalf, signed, shortIsNull, integerIsNull, floatIsNull, doubleIsNull}
+use Rattle.triplet.specs.declared.Triplet as read
+use Rattle.triplet.specs.Triplet.{tripletOf}
+use Rattle.header.specs.declared.Layout.{Layout}
+use Rattle.header.specs.declared.ColumnLayout.{ColumnLayout}
+use Rattle.table.specs.declared.Table.{Table}
+use Rattle.table.specs.declared.Row as row
+use Rattle.table.specs.declared.Value.{Value}
+use Rattle.table.specs.declared.Value.the-variants.{Short, ShortNull, Integer, IntegerNull, Float, FloatNull, Double, DoubleNull, Triplet, Text, Date, Coordinates, Empty, Refused}
+use Rattle.table.specs.Rows.{columnsOf, columnAt, columnPlace, rowOf, noSuchRow}
+
+-- "Null is -32,768 for S, -2,147,483,648 for I, NaN for floats; others have none."
+abbrev pub shortOf : ℕ → Value
+shortOf bits = cond (shortIsNull bits) ShortNull (Short (signed shortHalf bits))
+
+abbrev pub integerOf : ℕ → Value
+integerOf bits = cond (integerIsNull bits) IntegerNull (Integer (signed integerHalf bits))
+
+abbrev pub floatOf : ℕ → Value
+floatOf bits = cond (floatIsNull bits) (FloatNull bits) (Float bits)
+
+abbrev pub doubleOf : ℕ → Value
+doubleOf bits = cond (doubleIsNull bits) (DoubleNull bits) (Double bits)
+
+-- where the elements of a field at p start, and how many bytes they have: a `*` field begins with their count
+abbrev pub elementsStart : ColumnLayout → ℕ → ℕ
+elementsStart c p = cond (c .star) (p + 4) p
+
+abbrev pub elementsBytes : Order → List ℕ → ColumnLayout → ℕ → ℕ
+elementsBytes o s c p = cond (c .star) (number o s p 4 * widthOf (c .kind)) (c .size)
+
+abbrev pub tripletOfRead : read.Triplet → Value
+tripletOfRead (read.the-variants.Is ids n) = Triplet ids
+tripletOfRead (read.the-variants.Refused q) = Refused q
+
+-- the value of the field at p, by the column's type, in a row that ends at `end`
+abbrev pub byType : FieldType → Order → List ℕ → ColumnLayout → ℕ → ℕ → Value
+byType type.Text o s c p end = Text (elementsStart c p) (elementsBytes o s c p)
+byType type.Latin o s c p end = Text (elementsStart c p) (elementsBytes o s c p)
+byType type.Float o s c p end = floatOf (number o s p 4)
+byType type.Double o s c p end = doubleOf (number o s p 8)
+byType type.Short o s c p end = shortOf (number o s p 2)
+byType type.Integer o s c p end = integerOf (number o s p 4)
+byType type.ShortPair o s c p end = Coordinates (elementsStart c p) (elementsBytes o s c p)
+byType type.ShortTriple o s c p end = Coordinates (elementsStart c p) (elementsBytes o s c p)
+byType type.DoublePair o s c p end = Coordinates (elementsStart c p) (elementsBytes o s c p)
+byType type.DoubleTriple o s c p end = Coordinates (elementsStart c p) (elementsBytes o s c p)
+byType type.Date o s c p end = Date p 20
+byType type.NullField o s c p end = Empty
+byType type.Triplet o s c p end = tripletOfRead (tripletOf o (take (end - p) (drop p s)))
+
+unfoldable pub shown : Order → List ℕ → ColumnLayout → ℕ → ℕ → Value
+shown o s c p end = byType (c .kind) o s c p end
+
+-- "13: no such row, ring or column"
+abbrev pub noSuchColumn : Table → ℕ → Bool
+noSuchColumn t k = cond (eqb k 0) true (ltb (columnsOf (t .layout)) k)
+
+abbrev pub inRow : row.Row → (ℕ → ℕ → Value) → Value
+inRow (row.the-variants.Between start end) f = f start end
+inRow (row.the-variants.Refused q) f = Refused q
+
+-- THE VALUE of column k in row i: 13 for the row, 13 for the column, the row's own refusals, then the value
+unfoldable pub valueOf : List ℕ → List ℕ → Table → ℕ → ℕ → Value
+valueOf file index t i k =
+    cond (noSuchRow t i) (Refused (refusal 13 i))
+    (cond (noSuchColumn t k) (Refused (refusal 13 k))
+    (inRow (rowOf file index t i)
+    (λ start end. shown (t .layout .order) file (columnAt (t .layout) k) (columnPlace file (t .layout) start end k) end)))
+
+-- the part of the file that a value shows; nothing for a value that shows none
+abbrev pub partOf : List ℕ → Value → List ℕ
+partOf file (Text p n) = take n (drop p file)
+partOf file (Date p n) = take n (drop p file)
+partOf file (Coordinates p n) = take n (drop p file)
+partOf file (Short v) = []
+partOf file ShortNull = []
+partOf file (Integer v) = []
+partOf file IntegerNull = []
+partOf file (Float b) = []
+partOf file (FloatNull b) = []
+partOf file (Double b) = []
+partOf file (DoubleNull b) = []
+partOf file (Triplet ids) = []
+partOf file Empty = []
+partOf file (Refused q) = []
