@@ -1,1 +1,5 @@
 pub mod ScanBounds
+pub mod ByteClasses
+pub mod MachineMoves
+pub mod PrintIsRead
+pub mod ReadIsPrint
