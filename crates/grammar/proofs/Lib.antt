@@ -3,3 +3,5 @@ pub mod ByteClasses
 pub mod MachineMoves
 pub mod PrintIsRead
 pub mod ReadIsPrint
+pub mod GrammarExact
+pub mod SpotsGoOn

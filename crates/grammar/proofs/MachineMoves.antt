@@ -2,11 +2,10 @@
 use mathlib.Core.Path.{_≡_, refl, sym, ap}
 use mathlib.Core.Bool.{Bool, true, false, cond}
 use Prim.Native.Nat.{ℕ, _+_, _≤_, _<_}
-use native.Mathlib.Omega.{arith}
 use lib.Dec.{ltb, leb, eqb}
 use borrow.Author.Tests.{le-leb, eq-eqb, ltb-true, leb-true, eqb-true}
 use Rattle.laws.specs.Machine.{Next, go, stop}
-use Rattle.laws.proofs.TestLaws.{both-true, cond-same}
+use Rattle.laws.proofs.TestLaws.{both-true, cond-same, clash}
 use Rattle.grammar.specs.Words.{semicolon, star}
 use Rattle.grammar.specs.Fields.{rule, printable, letter, plain, digit, holds, allowed}
 use Rattle.grammar.specs.Scan.{spot, takes, closes, ends, stars, columnsAfter, move, machine}
@@ -91,32 +90,26 @@ pub record Stars (k : Special) (n b : ℕ) : Type 0 where
   pub byte : b ≡ star
   pub at-start : n ≡ 0
 
-never : {A : Type 0} → _≡_ {A = Bool} false true → A
-never e = let z : _≡_ {A = ℕ} 0 1 = cc in absurd (nought z)
-  where
-    nought : _≡_ {A = ℕ} 0 1 → ⊥
-    nought z = omega arith
-
 pub ends-says : (k : Special) (n cols b : ℕ) → ends k n cols b ≡ true → Ends k n cols b
 unfolding ends
 ends-says ColumnsMayEnd n cols b e =
     let h = both-true (eqb b semicolon) (cond (eqb n 0) (ltb 0 cols) false) e in
     let i = both-true (eqb n 0) (ltb 0 cols) (h .1) in
     record { special = refl; byte = eqb-true b semicolon (h .0); at-start = eqb-true n 0 (i .0); some = ltb-true 0 cols (i .1) }
-ends-says Usual n cols b e = never e
-ends-says StarMayStand n cols b e = never e
-ends-says ColumnIsWhole n cols b e = never e
-ends-says TextIsWhole n cols b e = never e
+ends-says Usual n cols b e = clash (cc)
+ends-says StarMayStand n cols b e = clash (cc)
+ends-says ColumnIsWhole n cols b e = clash (cc)
+ends-says TextIsWhole n cols b e = clash (cc)
 
 pub stars-says : (k : Special) (n b : ℕ) → stars k n b ≡ true → Stars k n b
 unfolding stars
 stars-says StarMayStand n b e =
     let h = both-true (eqb b star) (eqb n 0) e in
     record { special = refl; byte = eqb-true b star (h .0); at-start = eqb-true n 0 (h .1) }
-stars-says Usual n b e = never e
-stars-says ColumnsMayEnd n b e = never e
-stars-says ColumnIsWhole n b e = never e
-stars-says TextIsWhole n b e = never e
+stars-says Usual n b e = clash (cc)
+stars-says ColumnsMayEnd n b e = clash (cc)
+stars-says ColumnIsWhole n b e = clash (cc)
+stars-says TextIsWhole n b e = clash (cc)
 
 -- ---- one move, by the way it goes
 

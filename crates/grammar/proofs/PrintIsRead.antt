@@ -20,14 +20,14 @@ use Rattle.grammar.proofs.MachineMoves.{closed, take-step, close-step, 
 
 -- ---- words of the paper
 
-one-byte : (f : Field) (b : ℕ) → rule f .least ≤ 1 → 1 ≤ rule f .most → Holds (rule f .holds) 0 b → Word f (b ∷ [])
+pub one-byte : (f : Field) (b : ℕ) → rule f .least ≤ 1 → 1 ≤ rule f .most → Holds (rule f .holds) 0 b → Word f (b ∷ [])
 one-byte f b l m h = record { long = l; short = m; bytes = at }
   where
     at : (k : ℕ) → k < 1 → Holds (rule f .holds) k (getD (b ∷ []) k 0)
     at zero l = h
     at (suc k) l = absurd (omega arith)
 
-no-byte : (f : Field) → rule f .least ≤ 0 → Word f []
+pub no-byte : (f : Field) → rule f .least ≤ 0 → Word f []
 no-byte f l = record { long = l; short = omega arith; bytes = λ k h. absurd (none k h) }
   where
     none : (k : ℕ) → k < 0 → ⊥

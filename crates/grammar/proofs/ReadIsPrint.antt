@@ -7,6 +7,7 @@ use native.Mathlib.Omega.{arith}
 use native.Mathlib.Nat.{add-zero}
 use lib.ListN.{length, getD, length-append}
 use Rattle.laws.specs.Machine.{Next, go, stop, onNext, Accepts}
+use Rattle.laws.proofs.TestLaws.{clash}
 use Rattle.grammar.specs.Words as words
 use Rattle.grammar.specs.Words.{semicolon, colon, comma, equals, star, Mark, absent, letterL, letterM, Column, Reading, printedMark, printedColumn, printedColumns, printed, Printable, Digit, Text, Count, WellFormedColumn, WellFormedColumns, WellFormed, Reads}
 use Rattle.grammar.specs.Fields.{rule}
@@ -140,14 +141,8 @@ module _ (P : Spot → Type 0) (whole : (st : Spot) → P st → rule (st .field
       by : (o : Next Spot) → Way TextEnd 0 cols b o → onNext (Leads P bs) o → (b ∷ bs ≡ []) × P (spot TextEnd 0 cols)
       by _ (taken e) a = let t = takes-exactly TextEnd 0 b .0 e .0 in let z : ⊥ = omega arith in absurd z
       by _ (shut e) a = let t = closes-says TextEnd 0 b e .1 in let z : ⊥ = omega arith in absurd z
-      by _ (over e) a = absurd (not-ends (e .special))
-        where
-          not-ends : TextIsWhole ≡ ColumnsMayEnd → ⊥
-          not-ends e = let z : _≡_ {A = ℕ} 0 1 = cc in omega arith
-      by _ (starred e) a = absurd (not-star (e .special))
-        where
-          not-star : TextIsWhole ≡ StarMayStand → ⊥
-          not-star e = let z : _≡_ {A = ℕ} 0 1 = cc in omega arith
+      by _ (over e) a = clash (cc (e .special))
+      by _ (starred e) a = clash (cc (e .special))
       by _ barred a = absurd a
 
   -- ---- a field where nothing else can stand
@@ -204,10 +199,7 @@ module _ (P : Spot → Type 0) (whole : (st : Spot) → P st → rule (st .field
   counted cols s (parsed p) =
       let w = found Numeral cols s p in
       record { word = w .word; rest = w .rest; text = w .text; is = inr (word-numeral (w .word) (w .is)); next = w .next }
-  counted cols s (ended o) = absurd (not-ends (o .special))
-    where
-      not-ends : StarMayStand ≡ ColumnsMayEnd → ⊥
-      not-ends e = let z : _≡_ {A = ℕ} 0 1 = cc in omega arith
+  counted cols s (ended o) = clash (cc (o .special))
   counted cols s (star-stands o) =
       let w = read AfterStar cols tt (o .rest) (o .next) in
       let t : o .rest ≡ comma ∷ w .rest = w .text ∙ ap (λ (l : List ℕ). l ++ (comma ∷ w .rest)) (no-bytes (w .word) (w .is .short)) in
@@ -225,7 +217,7 @@ module _ (P : Spot → Type 0) (whole : (st : Spot) → P st → rule (st .field
   column-out : (cols : ℕ) (s : List ℕ) → Found Name cols s → ColumnRead cols s
   column-out cols s name =
       let kind = read Kind cols tt (name .rest) (name .next) in
-      let count = counted cols (kind .rest) (parse Numeral cols not-whole (kind .rest) 0 (omega arith) (kind .next)) in
+      let count = counted cols (kind .rest) (parse Numeral cols (λ e. clash (cc e)) (kind .rest) 0 (omega arith) (kind .next)) in
       let key = read Key cols tt (count .rest) (count .next) in
       let description = read Description cols tt (key .rest) (key .next) in
       let value-table = read ValueTable cols tt (description .rest) (description .next) in
@@ -234,8 +226,6 @@ module _ (P : Spot → Type 0) (whole : (st : Spot) → P st → rule (st .field
       let end = read ColumnEnd cols tt (narrative .rest) (narrative .next) in
       joined kind count key description value-table thematic-index narrative end
     where
-      not-whole : StarMayStand ≡ TextIsWhole → ⊥
-      not-whole e = let z : _≡_ {A = ℕ} 0 1 = cc in omega arith
       joined : (kind : Found Kind cols (name .rest)) (count : Counted cols (kind .rest)) (key : Found Key cols (count .rest)) (description : Found Description cols (key .rest))
           (value-table : Found ValueTable cols (description .rest)) (thematic-index : Found ThematicIndex cols (value-table .rest))
           (narrative : Found Narrative cols (thematic-index .rest)) (end : Found ColumnEnd cols (narrative .rest)) → ColumnRead cols s
@@ -287,15 +277,9 @@ module _ (P : Spot → Type 0) (whole : (st : Spot) → P st → rule (st .field
     pub some : 0 < cols + length columns
     pub reached : P (spot TextEnd 0 (cols + length columns))
 
-  name-not-whole : ColumnsMayEnd ≡ TextIsWhole → ⊥
-  name-not-whole e = let z : _≡_ {A = ℕ} 0 1 = cc in omega arith
-
   columns-by : (cols : ℕ) (s : List ℕ) → ((r : List ℕ) → length r < length s → Leads P r (spot Name 0 (cols + 1)) → ColumnsRead (cols + 1) r)
       → Outcome P Name 0 cols s → ColumnsRead cols s
-  columns-by cols s ih (star-stands o) = absurd (not-star (o .special))
-    where
-      not-star : ColumnsMayEnd ≡ StarMayStand → ⊥
-      not-star e = let z : _≡_ {A = ℕ} 0 1 = cc in omega arith
+  columns-by cols s ih (star-stands o) = clash (cc (o .special))
   columns-by cols s ih (ended o) =
       let e = ends-here cols (o .rest) (o .next) in
       record {
@@ -321,8 +305,8 @@ module _ (P : Spot → Type 0) (whole : (st : Spot) → P st → rule (st .field
 
   -- the text that is left grows shorter with each column
   columns-out : (fuel cols : ℕ) (s : List ℕ) → length s ≤ fuel → Leads P s (spot Name 0 cols) → ColumnsRead cols s
-  columns-out zero cols s h a = columns-by cols s (λ r l b. let z : ⊥ = omega arith in absurd z) (parse Name cols name-not-whole s 0 (omega arith) a)
-  columns-out (suc fuel) cols s h a = columns-by cols s (λ r l b. columns-out fuel (cols + 1) r (omega arith) b) (parse Name cols name-not-whole s 0 (omega arith) a)
+  columns-out zero cols s h a = columns-by cols s (λ r l b. let z : ⊥ = omega arith in absurd z) (parse Name cols (λ e. clash (cc e)) s 0 (omega arith) a)
+  columns-out (suc fuel) cols s h a = columns-by cols s (λ r l b. columns-out fuel (cols + 1) r (omega arith) b) (parse Name cols (λ e. clash (cc e)) s 0 (omega arith) a)
 
   -- ---- the text, read
 
