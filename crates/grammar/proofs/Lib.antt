@@ -5,3 +5,4 @@ pub mod PrintIsRead
 pub mod ReadIsPrint
 pub mod GrammarExact
 pub mod SpotsGoOn
+pub mod FirstBadByte
