@@ -6,3 +6,6 @@ pub mod ReadIsPrint
 pub mod GrammarExact
 pub mod SpotsGoOn
 pub mod FirstBadByte
+pub mod ColumnFacts
+pub mod OneReading
+pub mod Examples
