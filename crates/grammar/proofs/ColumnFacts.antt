@@ -1,12 +1,12 @@
 -- Which separators the fields of a well-formed reading lack: what closes a field does not stand in it. Assumes nothing.
-use mathlib.Core.Path.{_≡_, refl, sym, ap, _∙_}
+use mathlib.Core.Path.{_≡_, sym, _∙_}
 use mathlib.Core.List.{List, [], _∷_, _++_}
-use mathlib.Core.Logic.{_⊎_, inl, inr}
-use Prim.Native.Nat.{ℕ, zero, suc, _≤_, _<_}
+use mathlib.Core.Logic.{inl, inr}
+use Prim.Native.Nat.{ℕ, zero, suc, _≤_}
 use native.Mathlib.Omega.{arith}
 use lib.ListN.{length, getD}
 use Rattle.laws.proofs.SeparatorLaws.{Lacks}
-use Rattle.grammar.specs.Words.{semicolon, colon, comma, equals, star, Mark, absent, letterL, letterM, Column, Reading, printedMark, printedColumn, Plain, Text, Numeral, Count, WellFormedColumn, WellFormed}
+use Rattle.grammar.specs.Words.{semicolon, comma, equals, star, Mark, absent, letterL, letterM, Column, Reading, printedMark, printedColumn, Text, Count, WellFormedColumn, WellFormed}
 use Rattle.grammar.proofs.PrintIsRead.{column-then}
 
 text-lacks : (b : ℕ) {least most : ℕ} {Allowed : ℕ → Type 0} (w : List ℕ) → ((x : ℕ) → Allowed x → x ≡ b → ⊥) → Text least most Allowed w → Lacks b w

@@ -1,7 +1,7 @@
 -- Examples P1 and P2 of document 01, as texts: the ring table's header has three columns, and a byte less is refused at its end.
 -- Assumes nothing.
 use mathlib.Core.Path.{_≡_, refl}
-use mathlib.Core.List.{List, [], _∷_, _++_}
+use mathlib.Core.List.{List, [], _∷_}
 use Prim.Native.Nat.{ℕ}
 use lib.ListN.{length, take}
 use Rattle.grammar.specs.Fields.{printable, letter, plain, digit, holds, allowed}

@@ -1,9 +1,9 @@
 -- A scan that refuses gives the first byte that cannot continue, or the text's length where the text ends too soon; and where
 -- there is such a byte or end, the scan gives it. Assumes nothing.
 use mathlib.Core.Path.{_≡_, refl, sym, ap, subst, _∙_}
-use mathlib.Core.List.{List, [], _∷_, _++_, append-assoc, append-nil}
+use mathlib.Core.List.{List, [], _++_, append-assoc, append-nil}
 use mathlib.Core.Logic.{_⊎_, inl, inr, _↔_, by-cases}
-use Prim.Native.Nat.{ℕ, suc, _+_, _≤_, _<_}
+use Prim.Native.Nat.{ℕ, suc, _+_, _<_}
 use native.Mathlib.Omega.{arith}
 use native.Mathlib.Decide.{decLe}
 use lib.ListN.{length, take, drop, take-append-drop}
@@ -12,7 +12,7 @@ use Rattle.laws.specs.Machine.{End, ended, stuck, run, Continues}
 use Rattle.laws.specs.Machine as machine-words
 use Rattle.laws.proofs.MachineLaws.{stuck-first, ended-continues}
 use Rattle.laws.proofs.TestLaws.{clash}
-use Rattle.grammar.specs.Words.{Reads, InGrammar, Begins, FirstBad, EndsTooSoon}
+use Rattle.grammar.specs.Words.{InGrammar, Begins, FirstBad, EndsTooSoon}
 use Rattle.grammar.specs.Fields.{rule}
 use Rattle.grammar.specs.Scan.{machine, start, finish, answer, scanOf}
 use Rattle.grammar.specs.declared.Special.{Special}

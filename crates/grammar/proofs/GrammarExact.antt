@@ -1,5 +1,5 @@
 -- A scan accepts exactly the texts of the grammar, and counts their columns. Assumes nothing.
-use mathlib.Core.Path.{_≡_, refl, sym, ap, _∙_}
+use mathlib.Core.Path.{_≡_, refl, sym}
 use mathlib.Core.List.{List}
 use mathlib.Core.Logic.{_↔_}
 use Prim.Native.Nat.{ℕ}
@@ -13,8 +13,7 @@ use Rattle.grammar.specs.Scan.{machine, start, finish, answer, scanOf}
 use Rattle.grammar.specs.declared.Special.{Special}
 use Rattle.grammar.specs.declared.Special.the-variants.{Usual, ColumnsMayEnd, StarMayStand, ColumnIsWhole, TextIsWhole}
 use Rattle.grammar.specs.declared.Spot.{Spot}
-use Rattle.grammar.specs.declared.Scan.{Scan}
-use Rattle.grammar.specs.declared.Scan.the-variants.{Columns, BadByte}
+use Rattle.grammar.specs.declared.Scan.the-variants.{Columns}
 use Rattle.grammar.proofs.PrintIsRead.{Leads, text-in}
 use Rattle.grammar.proofs.ReadIsPrint.{text-out}
 

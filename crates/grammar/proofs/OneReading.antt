@@ -1,11 +1,11 @@
 -- No text has two readings: `printed` is injective on well-formed readings. Assumes nothing.
-use mathlib.Core.Path.{_≡_, refl, sym, ap, _∙_}
+use mathlib.Core.Path.{_≡_, refl, sym, _∙_}
 use mathlib.Core.List.{List, [], _∷_, _++_, append-assoc}
 use Prim.Native.Nat.{ℕ}
 use native.Mathlib.Omega.{arith}
 use Rattle.laws.proofs.SeparatorLaws.{one-cut}
 use Rattle.laws.proofs.TestLaws.{clash}
-use Rattle.grammar.specs.Words.{semicolon, colon, comma, equals, Mark, absent, letterL, letterM, Column, Reading, printedMark, printedColumn, printedColumns, printed, WellFormedColumn, WellFormedColumns, WellFormed, Reads}
+use Rattle.grammar.specs.Words.{semicolon, comma, equals, Mark, absent, letterL, letterM, Column, Reading, printedMark, printedColumn, printedColumns, printed, WellFormedColumn, WellFormedColumns, WellFormed, Reads}
 use Rattle.grammar.proofs.PrintIsRead.{column-then}
 use Rattle.grammar.proofs.ColumnFacts.{name-lacks-equals, count-lacks, description-lacks, value-table-lacks, thematic-index-lacks, narrative-lacks, column-not-end, mark-lacks-semicolon, table-description-lacks, table-narrative-lacks}
 

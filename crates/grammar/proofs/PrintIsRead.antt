@@ -1,16 +1,16 @@
 -- The print of a well-formed reading is read to its end, and its columns are counted. Assumes nothing.
-use mathlib.Core.Path.{_≡_, refl, sym, ap, subst}
+use mathlib.Core.Path.{_≡_, refl, subst}
 use mathlib.Core.List.{List, [], _∷_, _++_, append-assoc}
-use mathlib.Core.Logic.{_⊎_, inl, inr}
+use mathlib.Core.Logic.{inl, inr}
 use Prim.Native.Nat.{ℕ, zero, suc, _+_, _≤_, _<_}
 use native.Mathlib.Omega.{arith}
-use native.Mathlib.Nat.{add-zero}
+use native.Mathlib.Nat.{add-zero, zero-add}
 use lib.ListN.{length, getD}
 use borrow.Author.Tests.{lt-ltb}
 use Rattle.laws.specs.Machine.{Accepts}
 use Rattle.grammar.specs.Words as words
-use Rattle.grammar.specs.Words.{semicolon, colon, comma, equals, star, Mark, absent, letterL, letterM, Column, Reading, printedMark, printedColumn, printedColumns, printed, Printable, Digit, Count, WellFormedColumn, WellFormedColumns, WellFormed}
-use Rattle.grammar.specs.Fields.{rule, printable, letter, plain, digit, holds, allowed}
+use Rattle.grammar.specs.Words.{semicolon, colon, comma, equals, star, Mark, absent, letterL, letterM, Column, Reading, printedMark, printedColumn, printedColumns, printed, Printable, Count, WellFormedColumn, WellFormedColumns, WellFormed}
+use Rattle.grammar.specs.Fields.{rule, printable, plain, digit, holds, allowed}
 use Rattle.grammar.specs.Scan.{spot, takes, closes, ends, stars, move, machine, start}
 use Rattle.grammar.specs.declared.Field.{Field}
 use Rattle.grammar.specs.declared.Field.the-variants.{OrderLetter, TableDescription, TableNarrative, Name, Kind, Numeral, AfterStar, Key, Description, ValueTable, ThematicIndex, Narrative, ColumnEnd, TextEnd}
@@ -73,10 +73,7 @@ module _ (P : Spot → Type 0) where
 
   pub field-in : (f : Field) (cols : ℕ) (rest v : List ℕ) → Word f v → Leads rest (closed f cols) → Leads (v ++ (rule f .closer ∷ rest)) (spot f 0 cols)
   field-in f cols rest v w r =
-      feed f cols rest r v 0 (λ k h. subst (λ (j : ℕ). Holds (rule f .holds) j (getD v k 0)) (zero-plus k) (w .bytes k h)) (omega (arith, w .short)) (omega (arith, w .long))
-    where
-      zero-plus : (k : ℕ) → k ≡ 0 + k
-      zero-plus k = omega arith
+      feed f cols rest r v 0 (λ k h. rw zero-add (w .bytes k h)) (omega (arith, w .short)) (omega (arith, w .long))
 
   pub end-in : (cols : ℕ) → 0 < cols → P (spot TextEnd 0 cols) → Leads (semicolon ∷ []) (spot Name 0 cols)
   unfolding ends move takes closes allowed printable holds plain
@@ -124,7 +121,4 @@ module _ (P : Spot → Type 0) where
       field-in OrderLetter 0 _ (printedMark (h .mark)) (mark-word (h .mark))
       (field-in TableDescription 0 _ (h .description) (text-word TableDescription (λ b. Printable b × words.NoSemicolon b) (h .description) (λ k b x. x) (w .description))
       (field-in TableNarrative 0 _ (h .narrative) (text-word TableNarrative (λ b. Printable b × words.NoSemicolon b) (h .narrative) (λ k b x. x) (w .narrative))
-      (columns-in (h .columns) 0 (w .columns) (omega (arith, w .one-or-more)) (subst (λ (k : ℕ). P (spot TextEnd 0 k)) (zero-plus (length (h .columns))) p))))
-    where
-      zero-plus : (k : ℕ) → k ≡ 0 + k
-      zero-plus k = omega arith
+      (columns-in (h .columns) 0 (w .columns) (omega (arith, w .one-or-more)) (rw zero-add p))))

@@ -4,12 +4,12 @@ use mathlib.Core.List.{List, [], _∷_, _++_, append-assoc}
 use mathlib.Core.Logic.{_⊎_, inl, inr}
 use Prim.Native.Nat.{ℕ, zero, suc, _+_, _≤_, _<_}
 use native.Mathlib.Omega.{arith}
-use native.Mathlib.Nat.{add-zero}
+use native.Mathlib.Nat.{add-zero, zero-add}
 use lib.ListN.{length, getD, length-append}
-use Rattle.laws.specs.Machine.{Next, go, stop, onNext, Accepts}
+use Rattle.laws.specs.Machine.{Next, onNext}
 use Rattle.laws.proofs.TestLaws.{clash}
 use Rattle.grammar.specs.Words as words
-use Rattle.grammar.specs.Words.{semicolon, colon, comma, equals, star, Mark, absent, letterL, letterM, Column, Reading, printedMark, printedColumn, printedColumns, printed, Printable, Digit, Text, Count, WellFormedColumn, WellFormedColumns, WellFormed, Reads}
+use Rattle.grammar.specs.Words.{semicolon, colon, comma, equals, star, Mark, absent, letterL, letterM, Column, Reading, printedMark, printedColumn, printedColumns, Printable, Count, WellFormedColumn, WellFormedColumns, WellFormed, Reads}
 use Rattle.grammar.specs.Fields.{rule}
 use Rattle.grammar.specs.Scan.{spot, machine, start}
 use Rattle.grammar.specs.declared.Field.{Field}
@@ -18,7 +18,7 @@ use Rattle.grammar.specs.declared.Special.{Special}
 use Rattle.grammar.specs.declared.Special.the-variants.{Usual, ColumnsMayEnd, StarMayStand, ColumnIsWhole, TextIsWhole}
 use Rattle.grammar.specs.declared.Spot.{Spot}
 use Rattle.grammar.proofs.ByteClasses.{Holds, Word, takes-exactly, word-text}
-use Rattle.grammar.proofs.MachineMoves.{closed, closes-says, Ends, Stars, Way, taken, shut, over, starred, barred, way}
+use Rattle.grammar.proofs.MachineMoves.{closed, closes-says, Way, taken, shut, over, starred, barred, way}
 use Rattle.grammar.proofs.PrintIsRead.{Leads, column-then}
 
 -- ---- words of the paper
@@ -171,13 +171,10 @@ module _ (P : Spot → Type 0) (whole : (st : Spot) → P st → rule (st .field
         is = record {
           long = omega (arith, p .long);
           short = omega (arith, p .short);
-          bytes = λ k l. subst (λ (j : ℕ). Holds (rule f .holds) j (getD (p .word) k 0)) (zero-plus k) (p .bytes k l);
+          bytes = λ k l. rw zero-add at (p .bytes k l);
         };
         next = p .next;
       }
-    where
-      zero-plus : (k : ℕ) → 0 + k ≡ k
-      zero-plus k = omega arith
 
   read : (f : Field) (cols : ℕ) → Alone (rule f .special) → (s : List ℕ) → Leads P s (spot f 0 cols) → Found f cols s
   read f cols x s a = by (parse f cols (λ e. subst Alone e x) s 0 (omega arith) a)
@@ -331,8 +328,5 @@ module _ (P : Spot → Type 0) (whole : (st : Spot) → P st → rule (st .field
       let e₁ = letter .text ∙ (λ i. m i ++ (semicolon ∷ e₂ i)) in (
         h,
         record { well-formed = w; print = sym e₁ },
-        subst (λ (k : ℕ). P (spot TextEnd 0 k)) (zero-plus (length (columns .columns))) (columns .reached),
+        rw zero-add at (columns .reached),
       )
-    where
-      zero-plus : (k : ℕ) → 0 + k ≡ k
-      zero-plus k = omega arith

@@ -1,12 +1,11 @@
 -- From each spot that is reached some text goes on to the end of a header text. Assumes nothing.
 use mathlib.Core.Path.{_≡_, refl, sym, subst}
 use mathlib.Core.List.{List, [], _∷_, _++_}
-use mathlib.Core.Logic.{inl, by-cases}
+use mathlib.Core.Logic.{by-cases}
 use Prim.Native.Nat.{ℕ, _+_, _≤_, _<_}
 use native.Mathlib.Omega.{arith}
 use native.Mathlib.Decide.{decLe}
-use lib.ListN.{length, getD}
-use Rattle.laws.specs.Machine.{Next, go, stop, Continues}
+use Rattle.laws.specs.Machine.{Next, go, Continues}
 use Rattle.laws.proofs.TestLaws.{clash}
 use Rattle.grammar.specs.Words as words
 use Rattle.grammar.specs.Words.{semicolon}
@@ -16,7 +15,7 @@ use Rattle.grammar.specs.declared.Field.{Field}
 use Rattle.grammar.specs.declared.Field.the-variants.{OrderLetter, TableDescription, TableNarrative, Name, Kind, Numeral, AfterStar, Key, Description, ValueTable, ThematicIndex, Narrative, ColumnEnd, TextEnd}
 use Rattle.grammar.specs.declared.Special.the-variants.{TextIsWhole}
 use Rattle.grammar.specs.declared.Spot.{Spot}
-use Rattle.grammar.proofs.ByteClasses.{Holds, Word, takes-exactly}
+use Rattle.grammar.proofs.ByteClasses.{Word, takes-exactly}
 use Rattle.grammar.proofs.MachineMoves.{closed, Way, taken, shut, over, starred, barred, way}
 use Rattle.grammar.proofs.PrintIsRead.{Leads, feed, field-in, end-in, one-byte, no-byte}
 
