@@ -103,18 +103,21 @@ fn rule_of(field: Field) -> Rule
     }
 }
 
+// Bytes are 32 to 126.
 fn is_printable(byte: u8) -> bool
     ensures { λ r. ⌜ r ≡ printable byte ⌝ }
 {
     if byte < 32 { false } else { byte <= 126 }
 }
 
+// Whether the byte is an order letter.
 fn is_letter(byte: u8) -> bool
     ensures { λ r. ⌜ r ≡ letter byte ⌝ }
 {
     if byte == b'L' { true } else { byte == b'M' }
 }
 
+// Whether a column field may hold the byte: none of `; : , =`.
 fn is_plain(byte: u8) -> bool
     ensures { λ r. ⌜ r ≡ plain byte ⌝ }
 {
@@ -140,6 +143,7 @@ fn is_digit(n: usize, byte: u8) -> bool
     }
 }
 
+// Whether a field of the class may hold the byte as byte n, from 0, as far as the class goes.
 fn class_holds(class: Class, n: usize, byte: u8) -> bool
     ensures { λ r. ⌜ r ≡ holds class n byte ⌝ }
 {

@@ -1,4 +1,3 @@
-use borrow.Author.Needs.{needs}
 use borrow.Author.Tests.{eq-eqb, le-leb, lt-leb, ne-eqb}
 use Rattle.grammar.specs.Fields.{digit}
 use Rattle.grammar.proofs.is_digit.Statement.{statement}

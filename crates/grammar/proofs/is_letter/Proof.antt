@@ -1,4 +1,3 @@
-use borrow.Author.Needs.{needs}
 use borrow.Author.Tests.{eq-eqb, ne-eqb}
 use Rattle.grammar.specs.Fields.{letter}
 use Rattle.grammar.proofs.is_letter.Statement.{statement}

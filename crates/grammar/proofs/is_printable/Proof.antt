@@ -1,4 +1,3 @@
-use borrow.Author.Needs.{needs}
 use borrow.Author.Tests.{le-ltb, lt-ltb}
 use Rattle.grammar.specs.Fields.{printable}
 use Rattle.grammar.proofs.is_printable.Statement.{statement}
