@@ -1,12 +1,14 @@
--- Triplets in words: what it is that bytes begin with a triplet, and where bytes that begin with none are bad.
+-- Triplets in words: what it is that bytes begin with a triplet, where bytes that begin with none are bad, and when a triplet
+-- is written.
 use mathlib.Core.Path.{_≡_}
 use mathlib.Core.List.{List}
-use Prim.Native.Nat.{ℕ, _+_, _≤_, _<_}
+use Prim.Native.Nat.{ℕ, _+_, _^_, _≤_, _<_}
 use lib.ListN.{length, getD}
 use Rattle.number.specs.declared.Order.{Order}
 use Rattle.number.specs.Bytes.{number}
 use Rattle.triplet.specs.declared.Ids.{Ids}
 use Rattle.triplet.specs.Triplet.{largestPart, widthOf, idCode, tileCode, otherCode, reservedBits}
+use Rattle.triplet.specs.Written.{sizeOf}
 
 -- the w bytes at the place `at` are there and say v, "unsigned, at most 2,147,483,647"; no bytes say 0
 pub record PartIs (o : Order) (s : List ℕ) (at w v : ℕ) : Type 0 where
@@ -61,3 +63,21 @@ pub data BadAt (o : Order) (s : List ℕ) : ℕ → Type 0 where
   tile-bad : {a : ℕ} → TypeByte s → PartIs o s 1 (idWidth s) a → PartBad o s (tilePlace s) (tileWidth s) → BadAt o s (tilePlace s)
   other-bad : {a c : ℕ} → TypeByte s → PartIs o s 1 (idWidth s) a → PartIs o s (tilePlace s) (tileWidth s) c
       → PartBad o s (otherPlace s) (otherWidth s) → BadAt o s (otherPlace s)
+
+-- v can be given by the code c: the bytes that the code means hold it. "A longer form than needed is read."
+pub record Holds (c v : ℕ) : Type 0 where
+  pub code : c < 4
+  pub fits : v < 256 ^ widthOf c
+
+-- no part is too large
+pub record SmallParts (t : Ids) : Type 0 where
+  pub id : t .id ≤ largestPart
+  pub tile : t .tile ≤ largestPart
+  pub other : t .other ≤ largestPart
+
+-- THE TRIPLET FITS at the place `at` of a row of `len` bytes, in n bytes
+pub record FitsAt (len at : ℕ) (t : Ids) (n : ℕ) : Type 0 where
+  pub parts : SmallParts t
+  pub place : at ≤ len
+  pub room : at + n ≤ len
+  pub long : n ≡ sizeOf t
