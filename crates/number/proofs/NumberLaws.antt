@@ -8,7 +8,7 @@ use native.Mathlib.Nat.{pow-suc, zero-add, add-zero, add-suc, suc-add, div-add-m
 use native.Mathlib.Decide.{decLt, decLe}
 use borrow.Author.Tests.{le-leb, lt-leb}
 use lib.Dec.{leb}
-use lib.ListN.{length, getD, take, drop, length-append, length-drop, take-append-drop, List·getD-eq-default}
+use lib.ListN.{length, getD, take, drop, length-append, length-drop, length-take, take-append-drop, List·getD-eq-default}
 use lib.Seq.{sets, length-sets, drop-cons, take-append-le, drop-append-le, take-at, drop-at, drop-drop, getD-drop, getD-take, length-take-le, ext-getD}
 use Rattle.laws.proofs.LentLaws.{stored-run, sets-other}
 use Rattle.number.specs.Bytes.{leastFirst, digits, inOrder, value, bytesOf, inside, number, written, AreBytes}
@@ -169,16 +169,25 @@ one-digit Most v h = ap (λ (b : ℕ). b ∷ []) (mod-eq-of-lt h)
 pub write-one : (o : Order) (s : List ℕ) (at v : ℕ) → v < 256 → at + 1 ≤ length s → sets s at (v ∷ []) ≡ written o s at 1 v
 write-one o s at v b h = ap (sets s at) (sym (one-digit o v b)) ∙ write-by o s at 1 v h
 
--- a number is below 256 to the power of its width
-pub number-small : (o : Order) (s : List ℕ) (at w : ℕ) → AreBytes s → at + w ≤ length s → number o s at w < 256 ^ w
-number-small o s at w a h =
-    let n : length (take w (drop at s)) ≡ w = length-take-le w (drop at s) (rw (length-drop at s) (omega arith)) in
-    rw (number-inside o s at w h)
-    (rw n at
-    (value-small o (take w (drop at s))
-    (λ k. by-cases (decLt k w)
+-- a part of bytes is bytes
+bytes-part : (s : List ℕ) (at w : ℕ) → AreBytes s → AreBytes (take w (drop at s))
+bytes-part s at w a k =
+    by-cases (decLt k w)
     (λ l. rw (getD-take w (drop at s) k 0 l, getD-drop at s k 0) (a (at + k)))
-    (λ l. rw (List·getD-eq-default (take w (drop at s)) 0 {n = k} (omega arith)) (omega arith)))))
+    (λ l. rw (List·getD-eq-default (take w (drop at s)) 0 {n = k} (rw (length-take w (drop at s)) (omega arith))) (omega arith))
+
+length-part : (s : List ℕ) (at w : ℕ) → at + w ≤ length s → length (take w (drop at s)) ≡ w
+length-part s at w h = length-take-le w (drop at s) (rw (length-drop at s) (omega arith))
+
+-- a number is below 256 to the power of its width, and its bytes are those that stand there
+pub number-small : (o : Order) (s : List ℕ) (at w : ℕ) → AreBytes s → at + w ≤ length s → number o s at w < 256 ^ w
+number-small o s at w a h = rw (number-inside o s at w h) (rw (length-part s at w h) at (value-small o (take w (drop at s)) (bytes-part s at w a)))
+
+pub bytes-number : (o : Order) (s : List ℕ) (at w : ℕ) → AreBytes s → at + w ≤ length s → bytesOf o w (number o s at w) ≡ take w (drop at s)
+bytes-number o s at w a h =
+    ap (bytesOf o w) (number-inside o s at w h)
+    ∙ ap (λ (k : ℕ). bytesOf o k (value o (take w (drop at s)))) (sym (length-part s at w h))
+    ∙ bytes-value o (take w (drop at s)) (bytes-part s at w a)
 
 -- bytes after those that the number needs do not matter
 pub number-front : (o : Order) (xs ys : List ℕ) (at w : ℕ) → at + w ≤ length xs → number o (xs ++ ys) at w ≡ number o xs at w

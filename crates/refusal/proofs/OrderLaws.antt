@@ -10,7 +10,7 @@ use borrow.Author.Tests.{lt-ltb, le-ltb, eq-eqb, ne-eqb, eqb-true, eqb-false}
 use Rattle.laws.specs.Lowest.{lowest, None}
 use Rattle.laws.proofs.LowestLaws.{none-next, lowest-found, lowest-nothing, bool-cases}
 use Rattle.refusal.specs.declared.Refusal.{Refusal}
-use Rattle.refusal.specs.Order.{refusal, fine, first, located, firstOf, refuses, lowestOf, AllFine, RefusedFirst}
+use Rattle.refusal.specs.Order.{refusal, fine, refusedIf, first, located, firstOf, refuses, lowestOf, AllFine, RefusedFirst}
 
 -- a test that passes leaves the answer to the rest, and one that refuses is the answer
 pub first-passes : (a b : Refusal) → a .number ≡ 0 → first a b ≡ b
@@ -36,6 +36,15 @@ located-zero n p h = rw (eq-eqb p 0 h)
 pub located-at : (n p : ℕ) → (p ≡ 0 → ⊥) → located n p ≡ refusal n p
 unfolding located
 located-at n p h = rw (ne-eqb p 0 h)
+
+-- a test that does not refuse
+pub located-passes : (n p : ℕ) → (n ≡ 0 → ⊥) → located n p .number ≡ 0 → p ≡ 0
+unfolding located
+located-passes n p u h = bool-cases (eqb p 0) (eqb-true p 0) (λ t. absurd (u (rw t at h)))
+
+pub refused-if-passes : (b : Bool) (n p : ℕ) → (n ≡ 0 → ⊥) → refusedIf b n p .number ≡ 0 → b ≡ false
+refused-if-passes true n p u h = absurd (u h)
+refused-if-passes false n p u h = refl
 
 -- ---- a loop over rows: row i + 1 is fine; is the lowest that refuses; no row refuses
 pub on-next : (f : ℕ → Refusal) (i : ℕ) (q : Refusal) → None (refuses f) i → q ≡ f (i + 1) → q .number ≡ 0 → None (refuses f) (i + 1)

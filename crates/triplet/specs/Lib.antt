@@ -1,2 +1,3 @@
 pub mod Triplet
 pub mod Written
+pub mod Words
