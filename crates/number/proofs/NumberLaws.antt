@@ -1,17 +1,16 @@
 -- The laws of numbers in bytes, over the width and the byte order. Assumes nothing.
 use mathlib.Core.Path.{_≡_, refl, sym, ap, _∙_}
 use mathlib.Core.Logic.{by-cases}
-use mathlib.Core.List.{List, [], _∷_, _++_, reverse, reverseAux, reverseAux-eq, reverse-cons, reverse-reverse, append-assoc}
+use mathlib.Core.List.{List, [], _∷_, _++_, reverse, reverseAux, reverse-cons, reverse-reverse, append-assoc}
 use Prim.Native.Nat.{ℕ, zero, suc, _+_, _-_, _*_, _/_, _%_, _^_, _≤_, _<_}
 use native.Mathlib.Omega.{arith}
-use native.Mathlib.Nat.{pow-suc, zero-add, add-zero, add-suc, suc-add, div-add-mod', mod-eq-of-lt}
+use native.Mathlib.Nat.{pow-suc, zero-add, add-zero, div-add-mod', mod-eq-of-lt}
 use native.Mathlib.Decide.{decLt, decLe}
 use borrow.Author.Tests.{le-leb, lt-leb}
-use lib.Dec.{leb}
 use lib.ListN.{length, getD, take, drop, length-append, length-drop, length-take, take-append-drop, List·getD-eq-default}
-use lib.Seq.{sets, length-sets, drop-cons, take-append-le, drop-append-le, take-at, drop-at, drop-drop, getD-drop, getD-take, length-take-le, ext-getD}
+use lib.Seq.{sets, length-sets, drop-cons, take-append-le, drop-append-le, take-at, drop-at, drop-drop, getD-drop, getD-take, length-take-le}
 use Rattle.laws.proofs.LentLaws.{stored-run, sets-other}
-use Rattle.number.specs.Bytes.{leastFirst, digits, inOrder, value, bytesOf, inside, number, written, AreBytes}
+use Rattle.number.specs.Bytes.{leastFirst, digits, inOrder, value, bytesOf, number, written, AreBytes}
 use Rattle.number.specs.declared.Order.{Order}
 use Rattle.number.specs.declared.Order.the-variants.{Least, Most}
 

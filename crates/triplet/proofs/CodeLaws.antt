@@ -7,7 +7,7 @@ use native.Mathlib.Nat.{div-add-mod', div-div-eq-div-mul, mod-eq-of-lt, mul-add-
 use lib.Dec.{ltb, eqb, lit<}
 use borrow.Author.Tests.{eqb-true, eqb-false, ltb-true, ltb-false}
 use Rattle.triplet.specs.Triplet.{largestPart, absent, widthOf, idCode, tileCode, otherCode, reservedBits}
-use Rattle.triplet.specs.Written.{codeFor, widthFor, typeByte}
+use Rattle.triplet.specs.Written.{pastOneByte, pastTwoBytes, codeFor, widthFor, typeByte}
 use Rattle.triplet.specs.Words.{Holds}
 
 -- a code says at most four bytes
@@ -20,30 +20,30 @@ width-most (suc (suc (suc (suc c)))) l = absurd (omega arith)
 
 -- the shortest form holds the part
 pub shortest-holds : (v : ℕ) → v ≤ largestPart → Holds (codeFor v) v
-shortest-holds v m = go (eqb v absent) (ltb v 256) (ltb v 65536) refl refl refl
+shortest-holds v m = go (eqb v absent) (ltb v pastOneByte) (ltb v pastTwoBytes) refl refl refl
   where
-    go : (x y z : Bool) → eqb v absent ≡ x → ltb v 256 ≡ y → ltb v 65536 ≡ z → Holds (cond x 0 (cond y 1 (cond z 2 3))) v
+    go : (x y z : Bool) → eqb v absent ≡ x → ltb v pastOneByte ≡ y → ltb v pastTwoBytes ≡ z → Holds (cond x 0 (cond y 1 (cond z 2 3))) v
     go true y z e f g = record { code = lit< tt; fits = omega (arith, eqb-true v absent e) }
-    go false true z e f g = record { code = lit< tt; fits = omega (arith, ltb-true v 256 f) }
-    go false false true e f g = record { code = lit< tt; fits = omega (arith, ltb-true v 65536 g) }
+    go false true z e f g = record { code = lit< tt; fits = omega (arith, ltb-true v pastOneByte f) }
+    go false false true e f g = record { code = lit< tt; fits = omega (arith, ltb-true v pastTwoBytes g) }
     go false false false e f g = record { code = lit< tt; fits = omega arith }
 
 -- and no form that holds it is shorter
 pub shortest-least : (v c : ℕ) → Holds c v → widthFor v ≤ widthOf c
 unfolding widthFor
-shortest-least v c h = go (eqb v absent) (ltb v 256) (ltb v 65536) refl refl refl c (h .code) (h .fits)
+shortest-least v c h = go (eqb v absent) (ltb v pastOneByte) (ltb v pastTwoBytes) refl refl refl c (h .code) (h .fits)
   where
-    go : (x y z : Bool) → eqb v absent ≡ x → ltb v 256 ≡ y → ltb v 65536 ≡ z → (c : ℕ) → c < 4 → v < 256 ^ widthOf c
+    go : (x y z : Bool) → eqb v absent ≡ x → ltb v pastOneByte ≡ y → ltb v pastTwoBytes ≡ z → (c : ℕ) → c < 4 → v < 256 ^ widthOf c
         → widthOf (cond x 0 (cond y 1 (cond z 2 3))) ≤ widthOf c
     go true y z e f g c l h = omega arith
     go false y z e f g zero l h = absurd (eqb-false v absent e (omega arith))
     go false true z e f g (suc zero) l h = omega arith
     go false true z e f g (suc (suc zero)) l h = omega arith
     go false true z e f g (suc (suc (suc zero))) l h = omega arith
-    go false false z e f g (suc zero) l h = absurd (omega (arith, ltb-false v 256 f))
+    go false false z e f g (suc zero) l h = absurd (omega (arith, ltb-false v pastOneByte f))
     go false false true e f g (suc (suc zero)) l h = omega arith
     go false false true e f g (suc (suc (suc zero))) l h = omega arith
-    go false false false e f g (suc (suc zero)) l h = absurd (omega (arith, ltb-false v 65536 g))
+    go false false false e f g (suc (suc zero)) l h = absurd (omega (arith, ltb-false v pastTwoBytes g))
     go false false false e f g (suc (suc (suc zero))) l h = omega arith
     go false y z e f g (suc (suc (suc (suc c)))) l h = absurd (omega arith)
 

@@ -6,3 +6,4 @@ pub mod RoundTrip
 pub mod OnlyItsBytes
 pub mod OtherBytes
 pub mod ShortestForm
+pub mod Examples

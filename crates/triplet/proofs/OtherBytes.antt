@@ -1,19 +1,17 @@
 -- The writer "changes no other byte": outside the written bytes the row is as it was, and as long. Assumes nothing.
 use mathlib.Core.Path.{_≡_, refl, sym, ap, _∙_}
 use mathlib.Core.List.{List, _++_}
-use Prim.Native.Nat.{ℕ, suc, _+_, _≤_, _<_}
+use Prim.Native.Nat.{ℕ, _+_, _≤_, _<_}
 use native.Mathlib.Omega.{arith}
 use lib.ListN.{length, getD, take, drop, length-append}
 use lib.Seq.{sets, length-sets}
 use Rattle.laws.proofs.LentLaws.{stored-run, sets-other}
 use Rattle.number.specs.declared.Order.{Order}
-use Rattle.number.specs.Bytes.{bytesOf}
 use Rattle.number.proofs.NumberLaws.{length-bytes}
 use Rattle.triplet.specs.declared.Ids.{Ids}
 use Rattle.triplet.specs.declared.Written.{Written}
 use Rattle.triplet.specs.declared.Written.the-variants.{Bytes, Refused}
 use Rattle.triplet.specs.Written.{form, formSize, encoded, sizeOf, widthFor, codeFor, writtenOf, rowAfter}
-use Rattle.triplet.specs.Words.{FitsAt}
 use Rattle.triplet.proofs.WrittenExactly.{written-exactly}
 
 -- a form has as many bytes as its codes say

@@ -1,14 +1,14 @@
 -- A triplet is read exactly when the bytes begin with it, and refused at a place exactly when they are bad there.
 -- Assumes nothing.
 use mathlib.Core.Path.{_≡_, refl, sym, ap, _∙_}
-use mathlib.Core.Logic.{_↔_, _⊎_, inl, inr, ⊎-elim}
+use mathlib.Core.Logic.{_↔_}
 use mathlib.Core.Bool.{Bool, true, false, cond}
 use mathlib.Core.List.{List}
-use Prim.Native.Nat.{ℕ, _+_, _≤_, _<_}
+use Prim.Native.Nat.{ℕ, _+_, _≤_}
 use native.Mathlib.Omega.{arith}
 use lib.Dec.{eqb, ltb}
-use lib.ListN.{length, getD}
-use borrow.Author.Tests.{eqb-true, eqb-false, ltb-true, ltb-false, eq-eqb, ne-eqb, lt-ltb, le-ltb}
+use lib.ListN.{length}
+use borrow.Author.Tests.{eqb-true, eqb-false, ltb-true, ltb-false, eq-eqb, ne-eqb, le-ltb}
 use Rattle.laws.proofs.LowestLaws.{bool-cases}
 use Rattle.number.specs.declared.Order.{Order}
 use Rattle.number.specs.Bytes.{number}
@@ -116,9 +116,12 @@ is-read : (o : Order) (s : List ℕ) (t : Ids) (n : ℕ) → BeginsWith o s t n 
 unfolding partsOf
 is-read o s t n h =
     parts-next o s (h .type-byte)
-    ∙ rw
-    (part-reads o s 1 (idWidth s) (t .id) (h .id), part-reads o s (tilePlace s) (tileWidth s) (t .tile) (h .tile),
-    part-reads o s (otherPlace s) (otherWidth s) (t .other) (h .other), h .long)
+    ∙ rw (
+      part-reads o s 1 (idWidth s) (t .id) (h .id),
+      part-reads o s (tilePlace s) (tileWidth s) (t .tile) (h .tile),
+      part-reads o s (otherPlace s) (otherWidth s) (t .other) (h .other),
+      h .long,
+    )
 
 pub read-exactly : (o : Order) (s : List ℕ) (t : Ids) (n : ℕ) → (tripletOf o s ≡ Is t n) ↔ BeginsWith o s t n
 read-exactly o s t n = (begins-with o s t n (answer o s), is-read o s t n)
@@ -145,9 +148,11 @@ is-refused o s p (tile-bad {a} b x h) =
     parts-next o s b ∙ rw (part-reads o s 1 (idWidth s) a x, part-bad o s (tilePlace s) (tileWidth s) (x .inside) h)
 is-refused o s p (other-bad {a} {c} b x y h) =
     parts-next o s b
-    ∙ rw
-    (part-reads o s 1 (idWidth s) a x, part-reads o s (tilePlace s) (tileWidth s) c y,
-    part-bad o s (otherPlace s) (otherWidth s) (y .inside) h)
+    ∙ rw (
+      part-reads o s 1 (idWidth s) a x,
+      part-reads o s (tilePlace s) (tileWidth s) c y,
+      part-bad o s (otherPlace s) (otherWidth s) (y .inside) h,
+    )
 
 pub refused-exactly : (o : Order) (s : List ℕ) (q : Refusal) → (tripletOf o s ≡ Refused q) ↔ ((q ≡ refusal badTriplet (q .place)) × BadAt o s (q .place))
 refused-exactly o s q = (bad-there o s q (answer o s), λ h. is-refused o s (q .place) (h .1) ∙ ap Refused (sym (h .0)))

@@ -2,19 +2,19 @@
 -- Assumes nothing.
 use mathlib.Core.Path.{_≡_, refl, sym, ap, _∙_}
 use mathlib.Core.List.{List, [], _∷_, _++_, append-assoc}
-use Prim.Native.Nat.{ℕ, suc, _+_, _^_, _≤_, _<_}
+use Prim.Native.Nat.{ℕ, _+_, _^_, _≤_, _<_}
 use native.Mathlib.Omega.{arith}
 use lib.ListN.{length, take, drop, length-append}
 use lib.Seq.{length-take-le, drop-at}
 use Rattle.number.specs.declared.Order.{Order}
-use Rattle.number.specs.Bytes.{bytesOf, number}
+use Rattle.number.specs.Bytes.{bytesOf}
 use Rattle.number.proofs.NumberLaws.{number-bytes, length-bytes}
 use Rattle.triplet.specs.declared.Ids.{Ids}
 use Rattle.triplet.specs.declared.Triplet.the-variants.{Is}
 use Rattle.triplet.specs.declared.Written.the-variants.{Bytes}
 use Rattle.triplet.specs.Triplet.{largestPart, widthOf, tripletOf}
 use Rattle.triplet.specs.Written.{codeFor, widthFor, typeByte, form, formSize, encoded, sizeOf, writtenOf, rowAfter}
-use Rattle.triplet.specs.Words.{PartIs, BeginsWith, Holds, SmallParts, FitsAt}
+use Rattle.triplet.specs.Words.{PartIs, Holds, SmallParts}
 use Rattle.triplet.proofs.CodeLaws.{shortest-holds, type-id, type-tile, type-other, type-reserved}
 use Rattle.triplet.proofs.ReadExactly.{read-exactly}
 use Rattle.triplet.proofs.WrittenExactly.{written-exactly}
@@ -51,7 +51,7 @@ form-read o c₁ c₂ c₃ t rest p x y z =
       tile = rw (q₁, q₂) (part-stands o (b ∷ u₁) (u₃ ++ rest) (1 + w₁) w₂ (t .tile) (omega arith) (p .tile) (y .fits));
       other =
           rw (q₁, q₂, q₃, ← seam) (part-stands o (b ∷ (u₁ ++ u₂)) rest (1 + w₁ + w₂) w₃ (t .other) (omega arith) (p .other) (z .fits));
-      long = rw (q₁, q₂, q₃)
+      long = rw (q₁, q₂, q₃);
     }))
 
 -- THE ROUND TRIP: what is written is read, in either order, whatever follows

@@ -1,11 +1,11 @@
 -- What the writer's steps leave, and its tests in order. Assumes nothing.
-use mathlib.Core.Path.{_≡_, refl, sym, ap, _∙_}
+use mathlib.Core.Path.{_≡_, refl, ap, _∙_}
 use mathlib.Core.List.{List, [], _∷_, _++_, append-assoc}
 use Prim.Native.Nat.{ℕ, suc, _+_, _≤_, _<_}
 use native.Mathlib.Omega.{arith}
 use lib.ListN.{length, set, drop, length-append}
 use lib.Seq.{set-split}
-use borrow.Author.Tests.{eq-eqb, ne-eqb, lt-ltb, le-ltb}
+use borrow.Author.Tests.{ne-eqb, lt-ltb, le-ltb}
 use Rattle.laws.specs.Lowest.{lowest}
 use Rattle.number.specs.declared.Order.{Order}
 use Rattle.number.specs.Bytes.{bytesOf, written}
@@ -25,9 +25,12 @@ laid o s b w₁ w₂ w₃ u v w h =
     let d₂ : List ℕ = d₁ ++ bytesOf o w₂ v in
     let n₁ : length d₁ ≡ 1 + w₁ = ap suc (length-bytes o w₁ u) ∙ omega arith in
     let n₂ : length d₂ ≡ 1 + w₁ + w₂ = length-append d₁ (bytesOf o w₂ v) ∙ omega (arith, length-bytes o w₂ v) in
-    rw
-    (set-split s 0 b (omega arith), written-next o (b ∷ []) s 1 w₁ u refl (omega arith), written-next o d₁ s (1 + w₁) w₂ v n₁ (omega arith),
-    written-next o d₂ s (1 + w₁ + w₂) w₃ w n₂ h)
+    rw (
+      set-split s 0 b (omega arith),
+      written-next o (b ∷ []) s 1 w₁ u refl (omega arith),
+      written-next o d₁ s (1 + w₁) w₂ v n₁ (omega arith),
+      written-next o d₂ s (1 + w₁ + w₂) w₃ w n₂ h,
+    )
     (ap (λ (l : List ℕ). l ++ drop (1 + w₁ + w₂ + w₃) s) (append-assoc d₁ (bytesOf o w₂ v) (bytesOf o w₃ w)))
 
 -- the triplet as the code writes it, step by step

@@ -2,7 +2,7 @@
 -- 0, 1, 2, 4 bytes. Bits 1-0 are zero. The parts follow in that order, unsigned, at most 2,147,483,647. An absent part
 -- reads as 0. A longer form than needed is read."
 use mathlib.Core.Path.{_≡_}
-use mathlib.Core.Bool.{Bool, true, false, cond}
+use mathlib.Core.Bool.{cond}
 use mathlib.Core.List.{List}
 use Prim.Native.Nat.{ℕ, _+_, _/_, _%_, _≤_}
 use lib.Dec.{eqb, ltb}

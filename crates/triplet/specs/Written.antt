@@ -1,12 +1,11 @@
 -- A triplet id as bytes, and written. "The writer uses the shortest form (0 takes no bytes), written at a place inside the
 -- caller's row buffer, and changes no other byte. It tests a part too large (11, lowest such part, 1 to 3), then a place
 -- beyond the buffer (13), then room (14, start place plus bytes)."
-use mathlib.Core.Path.{_≡_}
 use mathlib.Core.Bool.{Bool, cond}
 use mathlib.Core.List.{List, [], _∷_, _++_}
-use Prim.Native.Nat.{ℕ, _+_, _*_, _^_, _≤_, _<_}
+use Prim.Native.Nat.{ℕ, _+_, _*_}
 use lib.Dec.{eqb, ltb}
-use lib.ListN.{length, take, drop}
+use lib.ListN.{take, drop}
 use Rattle.laws.specs.Lowest.{lowest}
 use Rattle.number.specs.declared.Order.{Order}
 use Rattle.number.specs.Bytes.{bytesOf}
@@ -24,9 +23,16 @@ noSuchPlace = 13
 abbrev pub tooShort : ℕ
 tooShort = 14
 
+-- the least numbers that one byte and that two bytes do not hold
+abbrev pub pastOneByte : ℕ
+pastOneByte = 256
+
+abbrev pub pastTwoBytes : ℕ
+pastTwoBytes = 65536
+
 -- "the shortest form (0 takes no bytes)": the code, and the bytes that it means
 abbrev pub codeFor : ℕ → ℕ
-codeFor v = cond (eqb v absent) 0 (cond (ltb v 256) 1 (cond (ltb v 65536) 2 3))
+codeFor v = cond (eqb v absent) 0 (cond (ltb v pastOneByte) 1 (cond (ltb v pastTwoBytes) 2 3))
 
 unfoldable pub widthFor : ℕ → ℕ
 widthFor v = widthOf (codeFor v)

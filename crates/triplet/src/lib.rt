@@ -7,23 +7,36 @@ ghost use Rattle.number.specs.Bytes.{number, written};
 ghost use Rattle.laws.specs.Lowest.{lowest};
 ghost use Rattle.triplet.specs.Triplet.{widthOf, Width, partAt, partsOf, badAt, tripletOf};
 ghost use Rattle.triplet.specs.Written.{partTooLarge, codeFor, widthFor, typeByte, sizeOf, encoded, writtenOf, rowAfter};
-
 use number::Order;
 use refusal::Refusal;
 
-// Refusals: a triplet that is bad, a place beyond the row, a row too short.
+// Refusal 11: a type byte or part bad, or cut short.
 const BAD_TRIPLET: u32 = 11;
+
+// Refusal 13: a place beyond the row.
 const NO_SUCH_PLACE: u32 = 13;
+
+// Refusal 14: the row is too short.
 const TOO_SHORT: u32 = 14;
 
 const LARGEST_PART: u32 = 2147483647;
 
+// The least number that one byte does not hold.
+const PAST_ONE_BYTE: u32 = 256;
+
+// The least number that two bytes do not hold.
+const PAST_TWO_BYTES: u32 = 65536;
+
 // What an absent part reads as, and what is written as one.
 const ABSENT: u32 = 0;
 
-// The weights of the codes of id, tile and external id in the type byte; below the last stand the two bits that are zero.
+// The weight of the code of the id in the type byte: bits 7-6.
 const ID_WEIGHT: u8 = 64;
+
+// Bits 5-4.
 const TILE_WEIGHT: u8 = 16;
+
+// Bits 3-2; below them stand the two bits that are zero.
 const OTHER_WEIGHT: u8 = 4;
 
 pub struct Ids {
@@ -111,7 +124,14 @@ fn read_parts(s: &[u8], w1: usize, w2: usize, w3: usize, order: Order) -> Triple
     match part_at(s, 1, w1, order) {
         Part::Reads(id) => match part_at(s, p2, w2, order) {
             Part::Reads(tile) => match part_at(s, p3, w3, order) {
-                Part::Reads(other) => Triplet::Is(Ids { id: id, tile: tile, other: other }, p3 + w3),
+                Part::Reads(other) => Triplet::Is(
+                    Ids {
+                        id: id,
+                        tile: tile,
+                        other: other,
+                    },
+                    p3 + w3,
+                ),
                 Part::Bad => bad_at(p3),
             },
             Part::Bad => bad_at(p2),
@@ -162,10 +182,10 @@ fn code_for(v: u32) -> u8
     if v == ABSENT {
         return 0;
     }
-    if v < 256 {
+    if v < PAST_ONE_BYTE {
         return 1;
     }
-    if v < 65536 {
+    if v < PAST_TWO_BYTES {
         return 2;
     }
     3
@@ -191,7 +211,9 @@ fn size_of(ids: Ids) -> usize
 fn type_byte(ids: Ids) -> u8
     ensures { λ r. ⌜ r ≡ typeByte (codeFor (ids .id)) (codeFor (ids .tile)) (codeFor (ids .other)) ⌝ }
 {
-    code_for(ids.id) * ID_WEIGHT + code_for(ids.tile) * TILE_WEIGHT + code_for(ids.other) * OTHER_WEIGHT
+    code_for(ids.id) * ID_WEIGHT
+        + code_for(ids.tile) * TILE_WEIGHT
+        + code_for(ids.other) * OTHER_WEIGHT
 }
 
 // Writes a part in its shortest form.
@@ -201,11 +223,11 @@ fn put_part(s: &mut [u8], at: usize, v: u32, order: Order)
     if v == ABSENT {
         return;
     }
-    if v < 256 {
+    if v < PAST_ONE_BYTE {
         number::write1(s, at, v as u8, order);
         return;
     }
-    if v < 65536 {
+    if v < PAST_TWO_BYTES {
         number::write2(s, at, v as u16, order);
         return;
     }

@@ -1,3 +1,5 @@
+-- `triplet::number_at` meets its contract: each width is read by the function of that width, and no bytes say 0.
+-- Assumes nothing.
 use mathlib.Core.Path.{_≡_, sym}
 use native.Mathlib.Omega.{arith}
 use Rattle.number.proofs.NumberLaws.{number-nothing}

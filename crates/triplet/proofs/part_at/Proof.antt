@@ -1,3 +1,5 @@
+-- `triplet::part_at` meets its contract: each answer is the branch of `partAt` with the tests that led to it.
+-- Assumes nothing.
 use borrow.Author.Needs.{needs}
 use borrow.Author.Tests.{eq-eqb, le-ltb, lt-ltb, ne-eqb}
 use Rattle.triplet.specs.Triplet.{partAt}

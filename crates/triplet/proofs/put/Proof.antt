@@ -1,3 +1,5 @@
+-- `triplet::put` meets its contract: the type byte and the three parts, written one after the other, are the encoded triplet before the rest of what was lent.
+-- Assumes nothing.
 use lib.ListN.{length-set}
 use native.Mathlib.Omega.{arith}
 use mathlib.Core.Path.{_∙_}

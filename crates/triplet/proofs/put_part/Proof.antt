@@ -1,3 +1,5 @@
+-- `triplet::put_part` meets its contract: each width is written by the function of that width, and an absent part writes nothing.
+-- Assumes nothing.
 use Rattle.number.proofs.NumberLaws.{written-nothing}
 use borrow.Author.Needs.{needs}
 use borrow.Author.Tests.{eq-eqb, le-ltb, lt-ltb, ne-eqb}

@@ -1,3 +1,5 @@
+-- `triplet::read` meets its contract: each answer is the branch of `tripletOf` with the tests that led to it.
+-- Assumes nothing.
 use borrow.Author.Needs.{needs}
 use borrow.Author.Tests.{eq-eqb, ne-eqb}
 use Rattle.triplet.specs.Triplet.{tripletOf}

@@ -1,3 +1,5 @@
+-- `triplet::read_parts` meets its contract: the parts are read one after the other as `partsOf` has them.
+-- Assumes nothing.
 use borrow.Author.Needs.{needs}
 use mathlib.Core.Path.{_∙_, sym}
 use Rattle.triplet.specs.Triplet.{partsOf}

@@ -1,3 +1,5 @@
+-- `triplet::size_of` meets its contract: the type byte and the widths of the three parts.
+-- Assumes nothing.
 use borrow.Author.Needs.{needs}
 use Rattle.triplet.specs.Written.{sizeOf}
 use Rattle.triplet.proofs.size_of.Statement.{statement}

@@ -1,3 +1,5 @@
+-- `triplet::too_large` meets its contract: the lowest part that is too large.
+-- Assumes nothing.
 use borrow.Author.Needs.{needs}
 use borrow.Author.Tests.{le-ltb, lt-ltb}
 use Rattle.triplet.proofs.too_large.Statement.{statement}

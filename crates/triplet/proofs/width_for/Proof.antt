@@ -1,3 +1,5 @@
+-- `triplet::width_for` meets its contract: the width of the shortest code.
+-- Assumes nothing.
 use borrow.Author.Needs.{needs}
 use Rattle.triplet.specs.Written.{widthFor}
 use Rattle.triplet.proofs.width_for.Statement.{statement}

@@ -1,10 +1,12 @@
+-- `triplet::write` meets its contract: a refusal is the first of the tests that refuses; else the part of the row that was lent comes back with the encoded triplet at its front.
+-- Assumes nothing.
 use Rattle.triplet.specs.Written.{tooShort}
 use Rattle.refusal.specs.Order.{refusal}
 use lib.Seq.{drop-drop}
 use lib.ListN.{length, take, drop}
 use native.Mathlib.Omega.{arith}
 use mathlib.Core.List.{List, _++_}
-use mathlib.Core.Path.{_≡_, sym, ap, refl, _∙_}
+use mathlib.Core.Path.{sym, ap, _∙_}
 use Prim.Native.Nat.{ℕ, _+_}
 use Rattle.triplet.specs.Written.{encoded, sizeOf}
 use Rattle.triplet.specs.declared.Written.the-variants.{Bytes, Refused}
@@ -48,11 +50,12 @@ refuse-requires-3 c κs = search needs
 returns-3 : tie.Need-returns-3
 returns-3 c =
     let a = (c .before .before .before .before .before .before .before .args) in
-    let n = (c .before .before .size-of) .ensures .0 in
-    (ap Refused ((c .refuse3) .ensures)
-    ∙ ap (λ (k : ℕ). Refused (refusal tooShort (a .at + k))) n
-    ∙ refuses-room (length (a .row .now)) (a .at) (a .ids) (sym ((c .before .before .before .before .before .too-large) .ensures .0) ∙ (c .before .before .before .before .if1) .left) ((c .before .before .before .if2) .left) (omega arith),
-    search needs)
+    let n = (c .before .before .size-of) .ensures .0 in (
+      ap Refused ((c .refuse3) .ensures)
+          ∙ ap (λ (k : ℕ). Refused (refusal tooShort (a .at + k))) n
+          ∙ refuses-room (length (a .row .now)) (a .at) (a .ids) (sym ((c .before .before .before .before .before .too-large) .ensures .0) ∙ (c .before .before .before .before .if1) .left) ((c .before .before .before .if2) .left) (omega arith),
+      search needs,
+    )
 
 sub-put : tie.Need-sub-put
 sub-put c = search needs
@@ -71,10 +74,11 @@ same-length c = search needs
 
 returns-4 : tie.Need-returns-4
 returns-4 c =
-    let a = (c .before .before .before .before .before .before .before .before .before .before .args) in
-    (ap Bytes ((c .before .before .before .before .before .size-of) .ensures .0) ∙ writes (length (a .row .now)) (a .at) (a .ids) (sym ((c .before .before .before .before .before .before .before .before .too-large) .ensures .0) ∙ (c .before .before .before .before .before .before .before .if1) .left) (omega arith),
-    lent-from (λ (l : List ℕ). encoded (a .order) (a .ids) ++ drop (sizeOf (a .ids)) l) (a .at) (a .row .now) ((c .before .before .put) .last .0) ((c .before .before .put) .ensures)
-    ∙ ap (λ (l : List ℕ). take (a .at) (a .row .now) ++ (encoded (a .order) (a .ids) ++ l)) (drop-drop (sizeOf (a .ids)) (a .at) (a .row .now)))
+    let a = (c .before .before .before .before .before .before .before .before .before .before .args) in (
+      ap Bytes ((c .before .before .before .before .before .size-of) .ensures .0) ∙ writes (length (a .row .now)) (a .at) (a .ids) (sym ((c .before .before .before .before .before .before .before .before .too-large) .ensures .0) ∙ (c .before .before .before .before .before .before .before .if1) .left) (omega arith),
+      lent-from (λ (l : List ℕ). encoded (a .order) (a .ids) ++ drop (sizeOf (a .ids)) l) (a .at) (a .row .now) ((c .before .before .put) .last .0) ((c .before .before .put) .ensures)
+          ∙ ap (λ (l : List ℕ). take (a .at) (a .row .now) ++ (encoded (a .order) (a .ids) ++ l)) (drop-drop (sizeOf (a .ids)) (a .at) (a .row .now)),
+    )
 
 pub write-spec : {M : Type 1} → statement M
 write-spec =
