@@ -8,8 +8,9 @@ use native.Mathlib.Nat.{pow-suc, zero-add, add-zero, add-suc, suc-add, div-add-m
 use native.Mathlib.Decide.{decLt, decLe}
 use borrow.Author.Tests.{le-leb, lt-leb}
 use lib.Dec.{leb}
-use lib.ListN.{length, getD, take, drop, length-append, length-drop, length-take, List·getD-append, List·getD-eq-default}
-use lib.Seq.{sets, sets-eq, drop-cons, take-append-le, drop-append-le, take-at, drop-at, getD-drop, getD-take, getD-append-add, length-take-le, ext-getD}
+use lib.ListN.{length, getD, take, drop, length-append, length-drop, take-append-drop, List·getD-eq-default}
+use lib.Seq.{sets, length-sets, drop-cons, take-append-le, drop-append-le, take-at, drop-at, drop-drop, getD-drop, getD-take, length-take-le, ext-getD}
+use Rattle.laws.proofs.LentLaws.{stored-run, sets-other}
 use Rattle.number.specs.Bytes.{leastFirst, digits, inOrder, value, bytesOf, inside, number, written, AreBytes}
 use Rattle.number.specs.declared.Order.{Order}
 use Rattle.number.specs.declared.Order.the-variants.{Least, Most}
@@ -107,6 +108,29 @@ pub written-outside : (o : Order) (s : List ℕ) (at w v : ℕ) → length s < a
 unfolding written
 written-outside o s at w v h = rw (lt-leb (at + w) (length s) h)
 
+-- no bytes: they say 0 and nothing is written
+value-nothing : (o : Order) → value o [] ≡ 0
+unfolding value
+value-nothing Least = refl
+value-nothing Most = refl
+
+pub number-nothing : (o : Order) (s : List ℕ) (at : ℕ) → number o s at 0 ≡ 0
+number-nothing o s at =
+    by-cases (decLe (at + 0) (length s)) (λ h. number-inside o s at 0 h ∙ value-nothing o) (λ h. number-outside o s at 0 (omega arith))
+
+pub written-nothing : (o : Order) (s : List ℕ) (at v : ℕ) → written o s at 0 v ≡ s
+written-nothing o s at v =
+    by-cases (decLe (at + 0) (length s))
+    (λ h.
+    written-inside o s at 0 v h
+    ∙ ap (λ (l : List ℕ). take at s ++ (l ++ drop (at + 0) s)) (length-0 (bytesOf o 0 v) (length-bytes o 0 v))
+    ∙ rw (add-zero at) (take-append-drop at s))
+    (λ h. written-outside o s at 0 v (omega arith))
+  where
+    length-0 : (l : List ℕ) → length l ≡ 0 → l ≡ []
+    length-0 [] e = refl
+    length-0 (x ∷ l) e = absurd (omega arith)
+
 -- the w elements from a place on, one by one
 abbrev pub following : List ℕ → ℕ → ℕ → List ℕ
 following s at zero = []
@@ -133,8 +157,7 @@ read-one o s at h = read-by o s at 1 h ∙ one-byte o (getD s at 0)
 pub write-by : (o : Order) (s : List ℕ) (at w v : ℕ) → at + w ≤ length s → sets s at (bytesOf o w v) ≡ written o s at w v
 write-by o s at w v h =
     let n = length-bytes o w v in
-    sets-eq (bytesOf o w v) s at (omega arith)
-    ∙ append-assoc (take at s) (bytesOf o w v) (drop (at + length (bytesOf o w v)) s)
+    stored-run (bytesOf o w v) s at (omega arith)
     ∙ ap (λ (k : ℕ). take at s ++ (bytesOf o w v ++ drop (at + k) s)) n
     ∙ sym (written-inside o s at w v h)
 
@@ -175,6 +198,15 @@ number-bytes o xs ys at w v e h =
     ∙ ap (value o) (take-at (bytesOf o w v) ys w (length-bytes o w v))
     ∙ value-bytes o w v h
 
+-- numbers written one after the other: behind a front that is written comes the next, and the rest of s stays
+pub written-next : (o : Order) (done s : List ℕ) (at w v : ℕ) → length done ≡ at → at + w ≤ length s
+    → written o (done ++ drop at s) at w v ≡ (done ++ bytesOf o w v) ++ drop (at + w) s
+written-next o done s at w v e h =
+    written-inside o (done ++ drop at s) at w v (simp (length-append, length-drop) (omega arith))
+    ∙ ap (λ (l : List ℕ). l ++ (bytesOf o w v ++ drop (at + w) (done ++ drop at s))) (take-at done (drop at s) at e)
+    ∙ ap (λ (l : List ℕ). done ++ (bytesOf o w v ++ l)) (sym (drop-drop w at (done ++ drop at s)) ∙ ap (drop w) (drop-at done (drop at s) at e) ∙ drop-drop w at s)
+    ∙ sym (append-assoc done (bytesOf o w v) (drop (at + w) s))
+
 -- THE ROUND TRIP: what was written is read, in either order and at every width
 pub number-written : (o : Order) (s : List ℕ) (at w v : ℕ) → at + w ≤ length s → v < 256 ^ w → number o (written o s at w v) at w ≡ v
 number-written o s at w v h l =
@@ -184,24 +216,12 @@ number-written o s at w v h l =
 pub length-written : (o : Order) (s : List ℕ) (at w v : ℕ) → length (written o s at w v) ≡ length s
 length-written o s at w v =
     by-cases (decLe (at + w) (length s))
-    (λ h. ap length (written-inside o s at w v h) ∙ simp (length-append, length-bytes, length-take-le at s (omega arith), length-drop) (omega arith))
+    (λ h. ap length (sym (write-by o s at w v h)) ∙ length-sets s at (bytesOf o w v))
     (λ h. ap length (written-outside o s at w v (omega arith)))
 
 -- A WRITE CHANGES NO OTHER BYTE
 pub written-other : (o : Order) (s : List ℕ) (at w v j : ℕ) → (at ≤ j → j < at + w → ⊥) → getD (written o s at w v) j 0 ≡ getD s j 0
 written-other o s at w v j out =
     by-cases (decLe (at + w) (length s))
-    (λ h.
-    let n : length (take at s) ≡ at = length-take-le at s (omega arith) in
-    ap (λ (l : List ℕ). getD l j 0) (written-inside o s at w v h)
-    ∙ by-cases (decLt j at)
-    (λ l. List·getD-append (take at s) (bytesOf o w v ++ drop (at + w) s) 0 j (rw n l) ∙ getD-take at s j 0 l)
-    (λ l.
-    let q : at + w ≤ j = by-cases (decLt j (at + w)) (λ m. absurd (out (omega arith) m)) (λ m. omega arith) in
-    let b : j ≡ length (take at s) + (length (bytesOf o w v) + (j - (at + w))) = omega (arith, n, length-bytes o w v) in
-    ap (λ (k : ℕ). getD (take at s ++ (bytesOf o w v ++ drop (at + w) s)) k 0) b
-    ∙ getD-append-add (take at s) (bytesOf o w v ++ drop (at + w) s) (length (bytesOf o w v) + (j - (at + w))) 0
-    ∙ getD-append-add (bytesOf o w v) (drop (at + w) s) (j - (at + w)) 0
-    ∙ getD-drop (at + w) s (j - (at + w)) 0
-    ∙ ap (λ (k : ℕ). getD s k 0) (omega arith)))
+    (λ h. ap (λ (l : List ℕ). getD l j 0) (sym (write-by o s at w v h)) ∙ sets-other (bytesOf o w v) s at j (rw (length-bytes o w v) out))
     (λ h. ap (λ (l : List ℕ). getD l j 0) (written-outside o s at w v (omega arith)))
