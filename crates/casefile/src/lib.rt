@@ -1,7 +1,7 @@
 // A file of test cases: read whole, and taken apart field by field. A field is two bytes of length, the least significant
 // first, and so many bytes; a field that runs past the file's end is cut there, so that any bytes are a file of cases.
 ghost use mathlib.Core.Path.{_≡_};
-ghost use Prim.Native.Nat.{_+_, min};
+ghost use Prim.Native.Nat.{_+_, _≤_, min};
 ghost use lib.ListN.{length};
 ghost use Rattle.io.specs.Counts.{Counts};
 ghost use Rattle.casefile.specs.Fields.{startOf, endOf, fieldAt};
@@ -45,9 +45,10 @@ fn start(file: &[u8], at: usize) -> usize
     forward(file, at, LENGTH_BYTES)
 }
 
-// The place after the field at a place.
+// The place after the field at a place. Inside the file it is further on, so that a walk from field to field ends.
 pub fn after(file: &[u8], at: usize) -> usize
     ensures { λ r. ⌜ r ≡ endOf (now (file .entry)) at ⌝ }
+    ensures { λ r. ⌜ min (at + 1) (length (now (file .entry))) ≤ r ⌝ }
 {
     let bytes = number::read2(file, at, Order::Least) as usize;
     forward(file, start(file, at), bytes)

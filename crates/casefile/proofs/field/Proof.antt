@@ -18,7 +18,7 @@ part-result-end : tie.Need-part-result-end
 part-result-end c = search needs
 
 returns : tie.Need-returns
-returns c = rw (c .before .after .ensures, c .before .before .start .ensures)
+returns c = rw (c .before .after .ensures .0, c .before .before .start .ensures)
 
 pub field-spec : {M : Type 1} → statement M
 field-spec =
