@@ -1,0 +1,64 @@
+// A file of test cases: read whole, and taken apart field by field. A field is two bytes of length, the least significant
+// first, and so many bytes; a field that runs past the file's end is cut there, so that any bytes are a file of cases.
+ghost use mathlib.Core.Path.{_≡_};
+ghost use Prim.Native.Nat.{_+_, _≤_, min};
+ghost use lib.ListN.{length};
+ghost use Rattle.io.specs.Counts.{Counts};
+ghost use Rattle.casefile.specs.Fields.{startOf, endOf, fieldAt};
+
+use number::Order;
+
+// The bytes of a field's length.
+const LENGTH_BYTES: usize = 2;
+
+// Reads a file into the buffer and answers how many bytes there are: 0 where it cannot be read, and no more than fit.
+pub fn load(path: &[u8], buf: &mut [u8]) -> usize
+    ensures { λ r. ⌜ Counts r (now (buf .exit)) ⌝ }
+{
+    let fd = os::open_read(path);
+    if fd < 0 {
+        return 0;
+    }
+    let n = io::read_full(fd, buf);
+    libc::close(fd);
+    n
+}
+
+// The place so many bytes further on, or the file's end where that comes first.
+fn forward(file: &[u8], at: usize, bytes: usize) -> usize
+    ensures { λ r. ⌜ r ≡ min (at + bytes) (length (now (file .entry))) ⌝ }
+{
+    let end = file.len();
+    if end < at {
+        return end;
+    }
+    if end - at < bytes {
+        return end;
+    }
+    at + bytes
+}
+
+// Where the bytes of the field at a place start.
+fn start(file: &[u8], at: usize) -> usize
+    ensures { λ r. ⌜ r ≡ startOf (now (file .entry)) at ⌝ }
+{
+    forward(file, at, LENGTH_BYTES)
+}
+
+// The place after the field at a place. Inside the file it is further on, so that a walk from field to field ends.
+pub fn after(file: &[u8], at: usize) -> usize
+    ensures { λ r. ⌜ r ≡ endOf (now (file .entry)) at ⌝ }
+    ensures { λ r. ⌜ min (at + 1) (length (now (file .entry))) ≤ r ⌝ }
+{
+    let bytes = number::read2(file, at, Order::Least) as usize;
+    forward(file, start(file, at), bytes)
+}
+
+// The bytes of the field at a place.
+pub fn field(file: &[u8], at: usize) -> &[u8]
+    ensures { λ r. ⌜ now r ≡ fieldAt (now (file .entry)) at ⌝ }
+{
+    let from = start(file, at);
+    let to = after(file, at);
+    &file[from..to]
+}
