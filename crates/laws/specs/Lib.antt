@@ -4,3 +4,4 @@ pub mod Orbit
 pub mod Buffer
 pub mod Marks
 pub mod Machine
+pub mod Foremost

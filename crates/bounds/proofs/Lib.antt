@@ -1,0 +1,3 @@
+pub mod FloatOrder
+pub mod FiniteLaws
+pub mod ReadLaws
