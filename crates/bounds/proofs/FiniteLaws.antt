@@ -1,13 +1,13 @@
 -- A pattern without its sign says whether the float is finite: below the infinity's it is, from there on it is not. Over
 -- the format. Assumes nothing.
-use mathlib.Core.Path.{_≡_, refl, sym, ap, _∙_}
+use mathlib.Core.Path.{_≡_, refl}
 use mathlib.Core.Bool.{Bool, true, false, not, cond}
 use Prim.Native.Nat.{ℕ, zero, suc, _+_, _-_, _*_, _/_, _%_, _≤_, _<_}
 use native.Mathlib.Omega.{arith}
 use native.Mathlib.Nat.{le-of-lt, le-antisymm, le-of-suc-le-suc, mod-lt, mul-comm, mul-pos, zero-lt-suc, div-lt-iff-lt-mul, le-div-iff-mul-le}
 use lib.Dec.{T, eqb, leb}
 use lib.Pow.{pow-pos}
-use lib.Ieee.{Float, inf, nan, Format, prec, emax, low, odd, hid, ones, top, ofFields, ofBits, nanBits}
+use lib.Ieee.{inf, nan, Format, prec, low, odd, hid, ones, top, ofFields, ofBits, nanBits}
 use lib.Ieee.Bits.{nanBits-above}
 use lib.Ieee.Scale.{finite}
 use borrow.Author.Tests.{le-ltb, eq-eqb, ne-eqb}

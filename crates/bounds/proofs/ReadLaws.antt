@@ -1,14 +1,14 @@
 -- What the code that reads coordinate after coordinate needs, over the width: where a coordinate lies, what a first and a
 -- further one do to the rectangle, and how the reading ends. Assumes nothing.
-use mathlib.Core.Path.{_≡_, refl, sym, ap, _∙_}
+use mathlib.Core.Path.{_≡_, refl, sym, _∙_}
 use mathlib.Core.Bool.{Bool, true, false, not, _&&_, cond}
 use mathlib.Core.List.{List}
 use Prim.Native.Nat.{ℕ, zero, suc, _+_, _*_, _/_, _%_, _≤_, _<_}
 use native.Mathlib.Omega.{arith}
-use native.Mathlib.Nat.{mul-le-mul-right, suc-mul, div-mul-le-self, div-le-self, div-eq-of-lt, le-div-iff-mul-le, one-mul, zero-mul}
+use native.Mathlib.Nat.{mul-le-mul-right, suc-mul, div-mul-le-self, div-le-self, div-eq-of-lt, le-div-iff-mul-le, one-mul, zero-mul, mul-div-cancel}
 use native.Mathlib.Numerals.{add-one}
 use lib.ListN.{length}
-use lib.Ieee.{Float, Format, lt, hid, ones, top, ofBits}
+use lib.Ieee.{Float, Format, binary32, binary64, lt, hid, ones, top, ofBits}
 use lib.Ieee.Scale.{finite}
 use borrow.Author.Tests.{eq-eqb, ne-eqb}
 use Rattle.laws.specs.Lowest.{None, lowest}
@@ -17,7 +17,9 @@ use Rattle.laws.proofs.ForemostLaws.{foremost-one}
 use Rattle.refusal.specs.Order.{refusal}
 use Rattle.number.specs.declared.Order.{Order}
 use Rattle.number.specs.Bytes.{number}
-use Rattle.bounds.specs.Bounds.{Rectangle, Bounds, within, refused, Point, at, notFinite, partBytes, Coordinates, count, partAt, xOf, yOf, unfit, rectangleOf, notFiniteOrNone, boundsOf, point, pointAt, around, extended, Reached}
+use Rattle.bounds.specs.declared.Parts.{Parts}
+use Rattle.bounds.specs.declared.Parts.the-variants.{Two, Three}
+use Rattle.bounds.specs.Bounds.{Rectangle, within, refused, at, notFinite, partCount, partBytes, Coordinates, coordinates, count, partAt, xOf, yOf, unfit, rectangleOf, notFiniteOrNone, boundsOf, point, pointAt, around, extended, Reached}
 use Rattle.bounds.proofs.FiniteLaws.{finite-below, finite-above}
 
 -- coordinate i + 1 lies inside the bytes
@@ -31,6 +33,17 @@ coordinate-inside c i l =
     let len = length (c .bytes) in
     let m : suc i * w ≤ len / w * w = mul-le-mul-right w l in
     (omega (arith, m, div-mul-le-self len w, suc-mul i w), omega (arith, div-le-self len w))
+
+-- bytes for exactly n coordinates hold n
+coordinate-pos : (f : Format) (p : Parts) → 0 < partCount p * partBytes f
+coordinate-pos binary32 Two = omega arith
+coordinate-pos binary32 Three = omega arith
+coordinate-pos binary64 Two = omega arith
+coordinate-pos binary64 Three = omega arith
+
+pub count-exact : (f : Format) (p : Parts) (o : Order) (s : List ℕ) (n : ℕ) → length s ≡ n * (partCount p * partBytes f) → count (coordinates f p o s) ≡ n
+unfolding count
+count-exact f p o s n e = rw e (mul-div-cancel n (coordinate-pos f p))
 
 -- what a point says of the x and y that it is made of
 made : (x y u v : Float) (a b : Bool) → cond a (cond b (at x y) notFinite) notFinite ≡ at u v → (not (a && b) ≡ false) × (x ≡ u) × (y ≡ v)

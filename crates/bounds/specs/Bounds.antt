@@ -1,9 +1,9 @@
 -- The rectangle of an edge's coordinates: one definition over the width of a float. Both widths have one type of values,
 -- so every law of this crate is stated once, for f32 and f64 together.
 use mathlib.Core.Path.{_≡_}
-use mathlib.Core.Bool.{Bool, true, false, not, _&&_, cond}
+use mathlib.Core.Bool.{Bool, not, _&&_, cond}
 use mathlib.Core.List.{List}
-use Prim.Native.Nat.{ℕ, suc, pred, _+_, _*_, _/_}
+use Prim.Native.Nat.{ℕ, pred, _+_, _*_, _/_}
 use lib.Dec.{eqb}
 use lib.Ieee.{Float, Format, binary32, binary64, lt, ofBits}
 use lib.Ieee.Scale.{finite}
@@ -75,7 +75,7 @@ abbrev pub partCount : Parts → ℕ
 partCount Two = 2
 partCount Three = 3
 
--- the bytes of one part: a short one is an f32, a double one an f64
+-- the bytes of one part: "for C and Z in f32, for B and Y in f64"
 abbrev pub partBytes : Format → ℕ
 partBytes binary32 = 4
 partBytes binary64 = 8

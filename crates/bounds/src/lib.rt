@@ -30,10 +30,13 @@ fn part_count(parts: Parts) -> usize
 
 // ---- f32
 
-// A pattern without its sign: below this of an infinity the number is finite, above it is no number.
+// The weight of the sign in a pattern.
 const SIGN32: u32 = 2147483648;
+
+// The pattern of an infinity, without its sign: those of finite numbers lie below it, those of NaNs above.
 const INFINITE32: u32 = 2139095040;
 
+// The four bounds travel as one record.
 pub struct Rectangle32 {
     pub least_x: f32,
     pub least_y: f32,
@@ -46,6 +49,7 @@ pub enum Bounds32 {
     Refused(Refusal),
 }
 
+// A coordinate's x and y, or that one of them is not finite.
 enum Point32 {
     At(f32, f32),
     NotFinite,
@@ -144,10 +148,13 @@ pub fn find_bounds32(bytes: &[u8], parts: Parts, order: Order) -> Bounds32
 
 // ---- f64
 
-// A pattern without its sign: below this of an infinity the number is finite, above it is no number.
+// The weight of the sign in a pattern.
 const SIGN64: u64 = 9223372036854775808;
+
+// The pattern of an infinity, without its sign: those of finite numbers lie below it, those of NaNs above.
 const INFINITE64: u64 = 9218868437227405312;
 
+// The four bounds travel as one record.
 pub struct Rectangle64 {
     pub least_x: f64,
     pub least_y: f64,
@@ -160,6 +167,7 @@ pub enum Bounds64 {
     Refused(Refusal),
 }
 
+// A coordinate's x and y, or that one of them is not finite.
 enum Point64 {
     At(f64, f64),
     NotFinite,

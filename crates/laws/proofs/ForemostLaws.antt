@@ -1,13 +1,12 @@
 -- The laws of the foremost of g 1, .., g n, over any order with ties. Assumes nothing.
 use mathlib.Core.Path.{_≡_, refl, sym, ap, _∙_}
-use mathlib.Core.Logic.{_⊎_, inl, inr, ⊎-elim, ⊎-swap, by-cases}
+use mathlib.Core.Logic.{_⊎_, ⊎-elim, ⊎-swap, by-cases}
 use mathlib.Core.Bool.{Bool, true, false, cond, true≢false}
-use Prim.Native.Nat.{ℕ, zero, suc, _+_, _≤_, _<_}
+use Prim.Native.Nat.{ℕ, zero, suc, _≤_, _<_}
 use native.Mathlib.Nat.{le-refl}
-use native.Mathlib.Numerals.{add-one}
 use native.Mathlib.Decide.{decLe, decLt}
 use native.Mathlib.Omega.{arith}
-use Rattle.laws.specs.Foremost.{foremostOfTwo, foremost, reversed, Ordered, Earliest}
+use Rattle.laws.specs.Foremost.{foremost, reversed, Ordered, Earliest}
 use Rattle.laws.proofs.LowestLaws.{bool-cases}
 
 -- an order read from its other end is an order

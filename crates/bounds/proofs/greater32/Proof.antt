@@ -1,5 +1,4 @@
 -- `greater32`: by its one test. Assumes nothing.
-use borrow.Author.Needs.{needs}
 use Rattle.bounds.proofs.greater32.Statement.{statement}
 use Rattle.bounds.proofs.greater32.Tie as tie
 

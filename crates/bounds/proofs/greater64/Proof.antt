@@ -1,5 +1,4 @@
 -- `greater64`: by its one test. Assumes nothing.
-use borrow.Author.Needs.{needs}
 use Rattle.bounds.proofs.greater64.Statement.{statement}
 use Rattle.bounds.proofs.greater64.Tie as tie
 

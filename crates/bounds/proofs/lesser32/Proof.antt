@@ -1,5 +1,4 @@
 -- `lesser32`: by its one test. Assumes nothing.
-use borrow.Author.Needs.{needs}
 use Rattle.bounds.proofs.lesser32.Statement.{statement}
 use Rattle.bounds.proofs.lesser32.Tie as tie
 

@@ -1,5 +1,4 @@
 -- `lesser64`: by its one test. Assumes nothing.
-use borrow.Author.Needs.{needs}
 use Rattle.bounds.proofs.lesser64.Statement.{statement}
 use Rattle.bounds.proofs.lesser64.Tie as tie
 
