@@ -8,3 +8,4 @@ pub mod MachineLaws
 pub mod LanguageLaws
 pub mod SeparatorLaws
 pub mod LentLaws
+pub mod ForemostLaws

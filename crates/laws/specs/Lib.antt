@@ -5,3 +5,4 @@ pub mod Buffer
 pub mod Marks
 pub mod Machine
 pub mod Language
+pub mod Foremost
