@@ -1,0 +1,34 @@
+-- "From K the internal id is taken; absent, null or negative numbers load as 0."
+use mathlib.Core.Bool.{Bool, cond}
+use mathlib.Core.List.{List}
+use Prim.Native.Nat.{ℕ, suc, pred, _-_}
+use lib.Dec.{ltb}
+use lib.ListN.{take, drop}
+use Rattle.number.specs.declared.Order.{Order}
+use Rattle.number.specs.Bytes.{number}
+use Rattle.field.specs.declared.FieldType.{FieldType}
+use Rattle.field.specs.Fields.{isInteger, isTriplet}
+use Rattle.triplet.specs.declared.Triplet.{Triplet}
+use Rattle.triplet.specs.declared.Triplet.the-variants.{Is, Refused}
+use Rattle.triplet.specs.Triplet.{tripletOf}
+use Rattle.header.specs.declared.Layout.{Layout}
+use Rattle.table.specs.Rows.{columnAt, boundOf, columnPlace}
+
+-- the patterns from 2,147,483,648 on are the negative numbers and null
+abbrev pub natural : ℕ → ℕ
+natural bits = cond (ltb bits 2147483648) bits 0
+
+abbrev pub internalId : Triplet → ℕ
+internalId (Is ids n) = ids .id
+internalId (Refused q) = 0
+
+-- the number of an I or K field that starts at p, in a row that ends at `end`
+unfoldable pub numberIn : Order → List ℕ → FieldType → ℕ → ℕ → ℕ
+numberIn o s kind p end =
+    cond (isInteger kind) (natural (number o s p 4))
+    (cond (isTriplet kind) (internalId (tripletOf o (take (end - p) (drop p s)))) 0)
+
+-- THE CELL of column k in row i
+unfoldable pub cellOf : List ℕ → List ℕ → Layout → ℕ → ℕ → ℕ
+cellOf file index l k i =
+    numberIn (l .order) file (columnAt l k .kind) (columnPlace file l (boundOf l index (pred i)) (boundOf l index i) k) (boundOf l index i)

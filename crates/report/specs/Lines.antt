@@ -1,0 +1,64 @@
+-- The lines that the program writes.
+use mathlib.Core.List.{List, [], _∷_, _++_}
+use Prim.Native.Nat.{ℕ}
+use lib.ListN.{length, drop}
+use Rattle.refusal.specs.declared.Refusal.{Refusal}
+use Rattle.load.specs.declared.Counts.{Counts}
+use Rattle.report.specs.declared.FileName.{FileName}
+use Rattle.report.specs.declared.FileName.the-variants.{Edg, Edx, Fac, Rng, Cnd, Cnx}
+use Rattle.report.specs.Text.{decimal, space, lineEnd}
+
+abbrev pub fileText : FileName → List ℕ
+fileText Edg = 101 ∷ 100 ∷ 103 ∷ []
+fileText Edx = 101 ∷ 100 ∷ 120 ∷ []
+fileText Fac = 102 ∷ 97 ∷ 99 ∷ []
+fileText Rng = 114 ∷ 110 ∷ 103 ∷ []
+fileText Cnd = 99 ∷ 110 ∷ 100 ∷ []
+fileText Cnx = 99 ∷ 110 ∷ 120 ∷ []
+
+-- `REFUSE `, `ACCEPT nodes `, ` edges `, ` faces `, ` rings `, `ring `, ` face `, ` steps `, `steps `
+abbrev pub refuseText : List ℕ
+refuseText = 82 ∷ 69 ∷ 70 ∷ 85 ∷ 83 ∷ 69 ∷ 32 ∷ []
+
+abbrev pub acceptText : List ℕ
+acceptText = 65 ∷ 67 ∷ 67 ∷ 69 ∷ 80 ∷ 84 ∷ 32 ∷ 110 ∷ 111 ∷ 100 ∷ 101 ∷ 115 ∷ 32 ∷ []
+
+abbrev pub edgesText : List ℕ
+edgesText = 32 ∷ 101 ∷ 100 ∷ 103 ∷ 101 ∷ 115 ∷ 32 ∷ []
+
+abbrev pub facesText : List ℕ
+facesText = 32 ∷ 102 ∷ 97 ∷ 99 ∷ 101 ∷ 115 ∷ 32 ∷ []
+
+abbrev pub ringsText : List ℕ
+ringsText = 32 ∷ 114 ∷ 105 ∷ 110 ∷ 103 ∷ 115 ∷ 32 ∷ []
+
+abbrev pub ringText : List ℕ
+ringText = 114 ∷ 105 ∷ 110 ∷ 103 ∷ 32 ∷ []
+
+abbrev pub faceText : List ℕ
+faceText = 32 ∷ 102 ∷ 97 ∷ 99 ∷ 101 ∷ 32 ∷ []
+
+abbrev pub stepsText : List ℕ
+stepsText = 115 ∷ 116 ∷ 101 ∷ 112 ∷ 115 ∷ 32 ∷ []
+
+-- `REFUSE edg 23 2`: file, number, place
+unfoldable pub refuseLine : FileName → Refusal → List ℕ
+refuseLine f q = refuseText ++ (fileText f ++ (space ∷ (decimal (q .number) ++ (space ∷ (decimal (q .place) ++ (lineEnd ∷ []))))))
+
+-- `ACCEPT nodes 3 edges 3 faces 2 rings 2`
+unfoldable pub acceptLine : Counts → List ℕ
+acceptLine c =
+    acceptText ++ (decimal (c .nodes) ++ (edgesText ++ (decimal (c .edges) ++ (facesText ++ (decimal (c .faces) ++ (ringsText ++ (decimal (c .rings) ++ (lineEnd ∷ []))))))))
+
+-- `ring 1 face 1 steps 3`
+unfoldable pub ringLine : ℕ → ℕ → ℕ → List ℕ
+ringLine row face steps =
+    ringText ++ (decimal row ++ (faceText ++ (decimal face ++ (space ∷ (stepsText ++ (decimal steps ++ (lineEnd ∷ [])))))))
+
+-- `steps 6`
+unfoldable pub stepsLine : ℕ → List ℕ
+stepsLine n = stepsText ++ (decimal n ++ (lineEnd ∷ []))
+
+-- a lent buffer with a line at its front, the rest as it was
+abbrev pub withLine : List ℕ → List ℕ → List ℕ
+withLine line d = line ++ drop (length line) d
