@@ -7,3 +7,4 @@ pub mod MarkLaws
 pub mod MachineLaws
 pub mod LanguageLaws
 pub mod SeparatorLaws
+pub mod PlaceLaws
