@@ -1,1 +1,11 @@
 pub mod ScanBounds
+pub mod ByteClasses
+pub mod MachineMoves
+pub mod PrintIsRead
+pub mod ReadIsPrint
+pub mod GrammarExact
+pub mod SpotsGoOn
+pub mod FirstBadByte
+pub mod ColumnFacts
+pub mod OneReading
+pub mod Examples

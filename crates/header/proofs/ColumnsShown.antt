@@ -13,8 +13,9 @@ use lib.Seq.{drop-cons, drop-length, take-all, getD-drop}
 use borrow.Author.Tests.{lt-ltb, ne-eqb, eqb-true, eq-eqb}
 use Rattle.laws.proofs.SeparatorLaws.{Lacks, lacks-tail}
 use Rattle.laws.proofs.PlaceLaws.{stands-inside, stands-byte, stands-past, stands-next, stands-part}
-use Rattle.grammar.specs.Words as words
-use Rattle.grammar.specs.Words.{semicolon, colon, comma, equals, star, Column, Reading, printedMark, printedColumn, printedColumns, printed, Plain, Printable, NoSemicolon, Text, Numeral, Count, WellFormedColumn, WellFormedColumns, WellFormed, Reads}
+use Rattle.grammar.specs.Words.{semicolon, colon, comma, equals, star, Column, Reading, printedMark, printedColumn, printedColumns, printed, Numeral, Count, WellFormedColumn, WellFormedColumns, WellFormed, Reads}
+use Rattle.grammar.proofs.PrintIsRead.{column-then}
+use Rattle.grammar.proofs.ColumnFacts.{name-lacks-equals, count-lacks, description-lacks, value-table-lacks, thematic-index-lacks, narrative-lacks, mark-lacks-semicolon, table-description-lacks, table-narrative-lacks}
 use Rattle.header.specs.declared.Span.{Span}
 use Rattle.header.specs.declared.Definition.{Definition}
 use Rattle.header.specs.Places.{before, seek, decimal, countOf, part, span, nameEnd, countEnd, descriptionEnd, valueTableEnd, thematicIndexEnd, narrativeEnd, definition, firstPlace, placeAfter, column}
@@ -49,32 +50,6 @@ module _ (s : List ℕ) (p b : ℕ) (xs t : List ℕ) (e : drop p s ≡ xs ++ (b
   pub field-next : drop (seek s p b + 1) s ≡ t
   field-next = stands-next s (seek s p b) b t field-closer
 
--- ---- which separators a field lacks
-
-plain-lacks : (least most : ℕ) (w : List ℕ) → Text least most Plain w → Lacks comma w
-plain-lacks least most w t k h e = t .bytes k h .no-comma e
-
-name-lacks : (least most : ℕ) (w : List ℕ) → Text least most Plain w → Lacks equals w
-name-lacks least most w t k h e = t .bytes k h .no-equals e
-
-free-lacks : (least most : ℕ) (w : List ℕ) → Text least most (λ b. Printable b × NoSemicolon b) w → Lacks semicolon w
-free-lacks least most w t k h e = t .bytes k h .1 e
-
-star-lacks : Lacks comma (star ∷ [])
-star-lacks zero h e = omega arith
-star-lacks (suc k) h e = omega arith
-
-count-lacks : (w : List ℕ) → Count w → Lacks comma w
-count-lacks w (inl q) = rw q star-lacks
-count-lacks w (inr v) = λ k h e. omega (arith, v .digits .bytes k h)
-
-mark-lacks : (m : words.Mark) → Lacks semicolon (printedMark m)
-mark-lacks words.absent k h e = omega arith
-mark-lacks words.letterL zero h e = omega arith
-mark-lacks words.letterL (suc k) h e = omega arith
-mark-lacks words.letterM zero h e = omega arith
-mark-lacks words.letterM (suc k) h e = omega arith
-
 -- ---- the first byte of a count tells a star from digits
 
 star-first : (w t : List ℕ) → Count w → (eqb (getD (w ++ t) 0 0) star ≡ true → w ≡ star ∷ []) × (w ≡ star ∷ [] → eqb (getD (w ++ t) 0 0) star ≡ true)
@@ -86,12 +61,6 @@ star-first (x ∷ w) t (inr v) =
     (λ h. absurd (q (eqb-true x star h)), λ h. absurd (q (ap (λ (l : List ℕ). getD l 0 0) h)))
 
 -- ---- a column's print, at the place p
-
--- a column's print with what follows it
-column-then : (c : Column) (rest : List ℕ) → printedColumn c ++ rest
-    ≡ c .name ++ (equals ∷ (c .type ∷ (comma ∷ (c .count ++ (comma ∷ (c .key ∷ (comma ∷ (c .description ++ (comma ∷
-    (c .valueTable ++ (comma ∷ (c .thematicIndex ++ (comma ∷ (c .narrative ++ (comma ∷ (colon ∷ rest))))))))))))))))
-column-then c rest = simp append-assoc
 
 print-length : (c : Column) → length (printedColumn c)
     ≡ length (c .name) + length (c .count) + length (c .description) + length (c .valueTable) + length (c .thematicIndex) + length (c .narrative) + 11
@@ -124,44 +93,44 @@ module _ (s : List ℕ) (p : ℕ) (c : Column) (rest : List ℕ) (w : WellFormed
   name-stands = e ∙ column-then c rest
 
   type-stands : drop (nameEnd s p + 1) s ≡ c .type ∷ (comma ∷ from-count)
-  type-stands = field-next s p equals (c .name) (c .type ∷ (comma ∷ from-count)) name-stands (name-lacks 1 24 (c .name) (w .name))
+  type-stands = field-next s p equals (c .name) (c .type ∷ (comma ∷ from-count)) name-stands (name-lacks-equals c w)
 
   count-stands : drop (nameEnd s p + 3) s ≡ from-count
   count-stands = moved s (nameEnd s p + 1 + 2) (nameEnd s p + 3) from-count (omega arith) (stands-past s (nameEnd s p + 1) (c .type ∷ (comma ∷ [])) from-count type-stands)
 
   key-stands : drop (countEnd s p + 1) s ≡ from-key
-  key-stands = field-next s (nameEnd s p + 3) comma (c .count) from-key count-stands (count-lacks (c .count) (w .count))
+  key-stands = field-next s (nameEnd s p + 3) comma (c .count) from-key count-stands (count-lacks c w)
 
   description-stands : drop (countEnd s p + 3) s ≡ from-description
   description-stands = moved s (countEnd s p + 1 + 2) (countEnd s p + 3) from-description (omega arith) (stands-past s (countEnd s p + 1) (c .key ∷ (comma ∷ [])) from-description key-stands)
 
   value-table-stands : drop (descriptionEnd s p + 1) s ≡ from-value-table
-  value-table-stands = field-next s (countEnd s p + 3) comma (c .description) from-value-table description-stands (plain-lacks 0 80 (c .description) (w .description))
+  value-table-stands = field-next s (countEnd s p + 3) comma (c .description) from-value-table description-stands (description-lacks c w)
 
   thematic-index-stands : drop (valueTableEnd s p + 1) s ≡ from-thematic-index
-  thematic-index-stands = field-next s (descriptionEnd s p + 1) comma (c .valueTable) from-thematic-index value-table-stands (plain-lacks 1 12 (c .valueTable) (w .value-table))
+  thematic-index-stands = field-next s (descriptionEnd s p + 1) comma (c .valueTable) from-thematic-index value-table-stands (value-table-lacks c w)
 
   narrative-stands : drop (thematicIndexEnd s p + 1) s ≡ from-narrative
-  narrative-stands = field-next s (valueTableEnd s p + 1) comma (c .thematicIndex) from-narrative thematic-index-stands (plain-lacks 1 12 (c .thematicIndex) (w .thematic-index))
+  narrative-stands = field-next s (valueTableEnd s p + 1) comma (c .thematicIndex) from-narrative thematic-index-stands (thematic-index-lacks c w)
 
   -- the ends of the fields
   name-end : nameEnd s p ≡ p + length (c .name)
-  name-end = seek-to s p equals (c .name) (c .type ∷ (comma ∷ from-count)) name-stands (name-lacks 1 24 (c .name) (w .name))
+  name-end = seek-to s p equals (c .name) (c .type ∷ (comma ∷ from-count)) name-stands (name-lacks-equals c w)
 
   count-end : countEnd s p ≡ nameEnd s p + 3 + length (c .count)
-  count-end = seek-to s (nameEnd s p + 3) comma (c .count) from-key count-stands (count-lacks (c .count) (w .count))
+  count-end = seek-to s (nameEnd s p + 3) comma (c .count) from-key count-stands (count-lacks c w)
 
   description-end : descriptionEnd s p ≡ countEnd s p + 3 + length (c .description)
-  description-end = seek-to s (countEnd s p + 3) comma (c .description) from-value-table description-stands (plain-lacks 0 80 (c .description) (w .description))
+  description-end = seek-to s (countEnd s p + 3) comma (c .description) from-value-table description-stands (description-lacks c w)
 
   value-table-end : valueTableEnd s p ≡ descriptionEnd s p + 1 + length (c .valueTable)
-  value-table-end = seek-to s (descriptionEnd s p + 1) comma (c .valueTable) from-thematic-index value-table-stands (plain-lacks 1 12 (c .valueTable) (w .value-table))
+  value-table-end = seek-to s (descriptionEnd s p + 1) comma (c .valueTable) from-thematic-index value-table-stands (value-table-lacks c w)
 
   thematic-index-end : thematicIndexEnd s p ≡ valueTableEnd s p + 1 + length (c .thematicIndex)
-  thematic-index-end = seek-to s (valueTableEnd s p + 1) comma (c .thematicIndex) from-narrative thematic-index-stands (plain-lacks 1 12 (c .thematicIndex) (w .thematic-index))
+  thematic-index-end = seek-to s (valueTableEnd s p + 1) comma (c .thematicIndex) from-narrative thematic-index-stands (thematic-index-lacks c w)
 
   narrative-end : narrativeEnd s p ≡ thematicIndexEnd s p + 1 + length (c .narrative)
-  narrative-end = seek-to s (thematicIndexEnd s p + 1) comma (c .narrative) (colon ∷ rest) narrative-stands (plain-lacks 1 12 (c .narrative) (w .narrative))
+  narrative-end = seek-to s (thematicIndexEnd s p + 1) comma (c .narrative) (colon ∷ rest) narrative-stands (narrative-lacks c w)
 
   after-print : narrativeEnd s p + 2 ≡ p + length (printedColumn c)
   after-print = omega (arith, name-end, count-end, description-end, value-table-end, thematic-index-end, narrative-end, print-length c)
@@ -169,7 +138,7 @@ module _ (s : List ℕ) (p : ℕ) (c : Column) (rest : List ℕ) (w : WellFormed
   count-shown : Numeral (c .count) → countOf s (nameEnd s p + 3) (countEnd s p) ≡ decimal 0 (c .count)
   unfolding countOf
   count-shown v =
-      let q = field-part s (nameEnd s p + 3) comma (c .count) from-key count-stands (count-lacks (c .count) (w .count)) in
+      let q = field-part s (nameEnd s p + 3) comma (c .count) from-key count-stands (count-lacks c w) in
       ap (λ (l : List ℕ). decimal 0 (take 5 l)) q ∙ ap (decimal 0) (take-all 5 (c .count) (v .digits .most-bytes))
 
   star-byte : getD s (nameEnd s p + 3) 0 ≡ getD from-count 0 0
@@ -180,15 +149,15 @@ module _ (s : List ℕ) (p : ℕ) (c : Column) (rest : List ℕ) (w : WellFormed
   unfolding definition
   shows = record {
     name-at = refl;
-    name = field-part s p equals (c .name) (c .type ∷ (comma ∷ from-count)) name-stands (name-lacks 1 24 (c .name) (w .name));
+    name = field-part s p equals (c .name) (c .type ∷ (comma ∷ from-count)) name-stands (name-lacks-equals c w);
     type = stands-byte s (nameEnd s p + 1) (c .type) (comma ∷ from-count) type-stands;
     star = rw star-byte (star-first (c .count) (comma ∷ from-key) (w .count));
     count = count-shown;
     key = stands-byte s (countEnd s p + 1) (c .key) (comma ∷ from-description) key-stands;
-    description = field-part s (countEnd s p + 3) comma (c .description) from-value-table description-stands (plain-lacks 0 80 (c .description) (w .description));
-    value-table = field-part s (descriptionEnd s p + 1) comma (c .valueTable) from-thematic-index value-table-stands (plain-lacks 1 12 (c .valueTable) (w .value-table));
-    thematic-index = field-part s (valueTableEnd s p + 1) comma (c .thematicIndex) from-narrative thematic-index-stands (plain-lacks 1 12 (c .thematicIndex) (w .thematic-index));
-    narrative = field-part s (thematicIndexEnd s p + 1) comma (c .narrative) (colon ∷ rest) narrative-stands (plain-lacks 1 12 (c .narrative) (w .narrative));
+    description = field-part s (countEnd s p + 3) comma (c .description) from-value-table description-stands (description-lacks c w);
+    value-table = field-part s (descriptionEnd s p + 1) comma (c .valueTable) from-thematic-index value-table-stands (value-table-lacks c w);
+    thematic-index = field-part s (valueTableEnd s p + 1) comma (c .thematicIndex) from-narrative thematic-index-stands (thematic-index-lacks c w);
+    narrative = field-part s (thematicIndexEnd s p + 1) comma (c .narrative) (colon ∷ rest) narrative-stands (narrative-lacks c w);
     after = after-print;
   }
 
@@ -218,23 +187,23 @@ module _ (s : List ℕ) (h : Reading) (r : Reads (drop 4 s) h) where
   mark-stands = sym (r .print)
 
   table-stands : drop (markEnd + 1) s ≡ h .description ++ (semicolon ∷ (h .narrative ++ (semicolon ∷ from-columns)))
-  table-stands = field-next s 4 semicolon (printedMark (h .mark)) _ mark-stands (mark-lacks (h .mark))
+  table-stands = field-next s 4 semicolon (printedMark (h .mark)) _ mark-stands (mark-lacks-semicolon (h .mark))
 
   table-narrative-stands : drop (tableEnd + 1) s ≡ h .narrative ++ (semicolon ∷ from-columns)
-  table-narrative-stands = field-next s (markEnd + 1) semicolon (h .description) _ table-stands (free-lacks 0 80 (h .description) (r .well-formed .description))
+  table-narrative-stands = field-next s (markEnd + 1) semicolon (h .description) _ table-stands (table-description-lacks h (r .well-formed))
 
   -- THE FIRST DEFINITION'S PLACE is that of the first column's print
   pub first-stands : drop (firstPlace s) s ≡ from-columns
   unfolding firstPlace
-  first-stands = field-next s (tableEnd + 1) semicolon (h .narrative) from-columns table-narrative-stands (free-lacks 1 12 (h .narrative) (r .well-formed .narrative))
+  first-stands = field-next s (tableEnd + 1) semicolon (h .narrative) from-columns table-narrative-stands (table-narrative-lacks h (r .well-formed))
 
   pub first-place : firstPlace s ≡ 4 + length (printedMark (h .mark)) + length (h .description) + length (h .narrative) + 3
   unfolding firstPlace
   first-place =
       omega (arith,
-      seek-to s 4 semicolon (printedMark (h .mark)) _ mark-stands (mark-lacks (h .mark)),
-      seek-to s (markEnd + 1) semicolon (h .description) _ table-stands (free-lacks 0 80 (h .description) (r .well-formed .description)),
-      seek-to s (tableEnd + 1) semicolon (h .narrative) from-columns table-narrative-stands (free-lacks 1 12 (h .narrative) (r .well-formed .narrative)))
+      seek-to s 4 semicolon (printedMark (h .mark)) _ mark-stands (mark-lacks-semicolon (h .mark)),
+      seek-to s (markEnd + 1) semicolon (h .description) _ table-stands (table-description-lacks h (r .well-formed)),
+      seek-to s (tableEnd + 1) semicolon (h .narrative) from-columns table-narrative-stands (table-narrative-lacks h (r .well-formed)))
 
   abbrev from-column : ℕ → List ℕ
   from-column k = printedColumns (drop k (h .columns)) ++ (semicolon ∷ [])

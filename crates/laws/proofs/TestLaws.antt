@@ -56,3 +56,7 @@ neither-true false y e = (refl, e)
 pub cond-same : (x y : Bool) → cond x y y ≡ y
 cond-same true y = refl
 cond-same false y = refl
+
+-- 0 and 1 differ: what an equation of two constructors comes to
+pub clash : {A : Type 0} → _≡_ {A = ℕ} 0 1 → A
+clash e = let z : ⊥ = omega arith in absurd z
