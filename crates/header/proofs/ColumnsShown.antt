@@ -167,7 +167,7 @@ module _ (s : List ℕ) (p : ℕ) (c : Column) (rest : List ℕ) (w : WellFormed
 
 -- ---- the columns of a head whose text is read as h
 
-column-well-formed : (cs : List Column) → WellFormedColumns cs → (k : ℕ) → k < length cs → WellFormedColumn (getD cs k noColumn)
+pub column-well-formed : (cs : List Column) → WellFormedColumns cs → (k : ℕ) → k < length cs → WellFormedColumn (getD cs k noColumn)
 column-well-formed [] w k l = absurd (omega arith)
 column-well-formed (c ∷ cs) w zero l = w .0
 column-well-formed (c ∷ cs) w (suc k) l = column-well-formed cs (w .1) k (omega arith)

@@ -1,1 +1,2 @@
 pub mod ColumnsShown
+pub mod ColumnsJudged
