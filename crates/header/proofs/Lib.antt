@@ -1,2 +1,3 @@
 pub mod ColumnsShown
 pub mod ColumnsJudged
+pub mod TestsInWords
