@@ -1,3 +1,6 @@
 pub mod ColumnsShown
 pub mod ColumnsJudged
 pub mod TestsInWords
+pub mod InOrder
+pub mod AcceptedExactly
+pub mod RefusedExactly
