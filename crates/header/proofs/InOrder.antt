@@ -62,7 +62,7 @@ module _ (file : List ℕ) where
       ((one-id, refl, λ e. let r = e names-differ (omega arith) in judged-id file (r .0) (r .1) (r .2)), tt)))))))))
 
   -- ---- L is one number, and the reading is one
-  one-length : (l m : ℕ) → SaysLength file l → SaysLength file m → l ≡ m
+  pub one-length : (l m : ℕ) → SaysLength file l → SaysLength file m → l ≡ m
   one-length l m a b = sym (length-said file l a) ∙ length-said file m b
 
   same-length : (P Q : ℕ → Type 0) → OfLength file P → OfLength file Q → (l : ℕ) × P l × Q l
