@@ -4,3 +4,4 @@ pub mod TestsInWords
 pub mod InOrder
 pub mod AcceptedExactly
 pub mod RefusedExactly
+pub mod StepsInOrder

@@ -4,7 +4,7 @@ use mathlib.Core.Path.{_≡_, refl, sym, ap, subst, _∙_}
 use mathlib.Core.Logic.{_↔_, _⊎_, inl, inr, ⊎-elim}
 use mathlib.Core.Bool.{Bool, true, false, cond, not, true≢false}
 use mathlib.Core.List.{List, [], _∷_}
-use Prim.Native.Nat.{ℕ, _+_, _≤_, _<_}
+use Prim.Native.Nat.{ℕ, _+_, _-_, _≤_, _<_}
 use native.Mathlib.Omega.{arith}
 use borrow.Author.Tests.{eq-eqb, ne-eqb, eqb-true, eqb-false, ltb-true, ltb-false}
 use lib.Dec.{eqb, ltb}
@@ -76,7 +76,9 @@ module _ (file : List ℕ) where
 
   pub text-is : textOf file ≡ textIn file (textLength file)
   unfolding headOf
-  text-is = drop-take 4 (textLength file) file
+  text-is =
+      let e : textLength file + 4 - 4 ≡ textLength file = omega arith in
+      drop-take 4 (textLength file + 4) file ∙ ap (textIn file) e
 
   pub reads-text : (h : Reading) → TextReads file h → Reads (textOf file) h
   reads-text h t = subst (λ (s : List ℕ). Reads s h) (ap (textIn file) (sym (length-said (t .textLength) (t .says))) ∙ sym text-is) (t .reads)

@@ -3,9 +3,9 @@ use mathlib.Core.Path.{_≡_, refl, sym, ap, _∙_}
 use mathlib.Core.List.{List, [], _∷_, _++_}
 use Prim.Native.Nat.{ℕ, zero, suc, _+_, _-_, _≤_, _<_}
 use native.Mathlib.Omega.{arith}
-use native.Mathlib.Nat.{add-zero, add-suc}
+use native.Mathlib.Nat.{add-zero, sub-zero, zero-sub, suc-sub-suc}
 use lib.ListN.{length, getD, take, drop, length-append, length-drop}
-use lib.Seq.{take-nil, drop-drop, drop-append-seam, take-append-seam, getD-drop}
+use lib.Seq.{take-nil, drop-nil, drop-drop, drop-append-seam, take-append-seam, getD-drop}
 
 module _ (s : List ℕ) (p : ℕ) where
   -- a text with a byte stands inside
@@ -29,8 +29,9 @@ module _ (s : List ℕ) (p : ℕ) where
   pub stands-part : (xs t : List ℕ) → drop p s ≡ xs ++ t → take (length xs) (drop p s) ≡ xs
   stands-part xs t e = ap (take (length xs)) e ∙ take-append-seam xs t
 
--- the head of a text and what is left of it: taken and dropped in either order
-pub drop-take : (n m : ℕ) (s : List ℕ) → drop n (take (m + n) s) ≡ take m (drop n s)
-drop-take zero m s = rw (add-zero m)
-drop-take (suc n) m [] = rw (add-suc m n) (sym (take-nil m))
-drop-take (suc n) m (x ∷ s) = rw (add-suc m n) (drop-take n m s)
+-- what stands at a place of the first m bytes
+pub drop-take : (n m : ℕ) (s : List ℕ) → drop n (take m s) ≡ take (m - n) (drop n s)
+drop-take zero m s = rw (sub-zero m)
+drop-take (suc n) zero s = rw (zero-sub (suc n)) (drop-nil (suc n))
+drop-take (suc n) (suc m) [] = rw (suc-sub-suc m n) (sym (take-nil (m - n)))
+drop-take (suc n) (suc m) (x ∷ s) = rw (suc-sub-suc m n) (drop-take n m s)
