@@ -14,7 +14,7 @@ use Rattle.grammar.specs.Words.{Reading, Reads}
 use Rattle.header.specs.declared.Answer.the-variants.{Accepted}
 use Rattle.header.specs.Judge.{mostText, mostColumns, headerRefusal, answered}
 use Rattle.header.specs.Layouts.{headerOf}
-use Rattle.header.specs.Words.{OneId, ColumnRules, AcceptedHeader}
+use Rattle.header.specs.Words.{OneId, AcceptedHeader}
 use Rattle.header.specs.Refusals.{SaysLength, textIn, TextReads, OfLength, OfReading, AllSound, NamesDiffer, Test, five-bytes, order-letter, text-fits, text-limit, in-grammar, columns-sound, at-most-64, names-differ, one-id, Holds}
 use Rattle.header.proofs.TestsInWords.{one-text}
 use Rattle.header.proofs.InOrder.{one-length, all-hold-exactly}

@@ -1,19 +1,18 @@
 -- The tests of the columns, in the words of the reading: sound columns, names that differ, one id. Assumes nothing.
 use mathlib.Core.Path.{_≡_, refl, sym, ap, subst, _∙_}
 use mathlib.Core.Logic.{_↔_, by-cases, _⊎_, inl, inr, ⊎-elim}
-use mathlib.Core.Bool.{Bool, true, false, cond, not, _&&_, _||_, true≢false}
-use mathlib.Core.List.{List, [], _∷_, _++_}
-use Prim.Native.Nat.{ℕ, zero, suc, pred, _+_, _-_, _*_, _≤_, _<_}
-use native.Mathlib.Decide.{decLt, ℕ-discrete}
+use mathlib.Core.Bool.{Bool, true, false, not, _||_, true≢false}
+use mathlib.Core.List.{List, [], _∷_}
+use Prim.Native.Nat.{ℕ, zero, suc, pred, _+_, _-_, _*_, _≤_}
+use native.Mathlib.Decide.{decLt}
 use native.Mathlib.Omega.{arith}
-use borrow.Author.Tests.{eq-eqb, ne-eqb, eqb-true, eqb-false, not-true, not-false, ltb-false}
+use borrow.Author.Tests.{eq-eqb, ne-eqb, eqb-true, eqb-false, not-false}
 use lib.Dec.{eqb, ltb}
-use lib.ListN.{length, getD, take, drop}
-use Rattle.laws.specs.Lowest.{lowest, In, Each, At}
-use Rattle.laws.proofs.TestLaws.{or-false, and-true, denied, refuted, equal, nonzero, both-true, clash}
-use Rattle.laws.proofs.LowestLaws.{bool-cases, lowest-cases, lowest-some, lowest-pos}
+use lib.ListN.{length, getD, drop}
+use Rattle.laws.specs.Lowest.{lowest, In, Each}
+use Rattle.laws.proofs.TestLaws.{or-false, and-true, denied, refuted, equal, both-true, clash}
+use Rattle.laws.proofs.LowestLaws.{bool-cases, lowest-cases}
 use Rattle.refusal.proofs.JudgedLaws.{none-found}
-use Rattle.grammar.specs.Words as words
 use Rattle.grammar.specs.Words.{star, Column, Reading, Numeral, Count, WellFormedColumn, Reads}
 use Rattle.field.specs.declared.FieldType.{FieldType}
 use Rattle.field.specs.declared.Lookup.{Lookup}

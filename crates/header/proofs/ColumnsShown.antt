@@ -1,23 +1,21 @@
 -- In a head whose text is the print of a well-formed reading, seeking the separators finds each column's print, and the definition
 -- there shows the column. Assumes nothing.
-use mathlib.Core.Path.{_≡_, refl, sym, ap, subst, _∙_}
-use mathlib.Core.Logic.{_⊎_, inl, inr, ⊎-elim}
-use mathlib.Core.Bool.{Bool, true, false, cond}
+use mathlib.Core.Path.{_≡_, refl, sym, ap, _∙_}
+use mathlib.Core.Logic.{inl, inr}
+use mathlib.Core.Bool.{true}
 use mathlib.Core.List.{List, [], _∷_, _++_, append-assoc}
-use Prim.Native.Nat.{ℕ, zero, suc, pred, _+_, _-_, _≤_, _<_}
+use Prim.Native.Nat.{ℕ, zero, suc, _+_, _-_, _≤_, _<_}
 use native.Mathlib.Omega.{arith}
 use native.Mathlib.Nat.{add-zero}
-use lib.Dec.{eqb, ltb}
+use lib.Dec.{eqb}
 use lib.ListN.{length, getD, take, drop, length-append}
 use lib.Seq.{drop-cons, drop-length, take-all, getD-drop}
 use borrow.Author.Tests.{lt-ltb, ne-eqb, eqb-true, eq-eqb}
 use Rattle.laws.proofs.SeparatorLaws.{Lacks, lacks-tail}
 use Rattle.laws.proofs.PlaceLaws.{stands-inside, stands-byte, stands-past, stands-next, stands-part}
-use Rattle.grammar.specs.Words.{semicolon, colon, comma, equals, star, Column, Reading, printedMark, printedColumn, printedColumns, printed, Numeral, Count, WellFormedColumn, WellFormedColumns, WellFormed, Reads}
+use Rattle.grammar.specs.Words.{semicolon, colon, comma, equals, star, Column, Reading, printedMark, printedColumn, printedColumns, printed, Numeral, Count, WellFormedColumn, WellFormedColumns, Reads}
 use Rattle.grammar.proofs.PrintIsRead.{column-then}
 use Rattle.grammar.proofs.ColumnFacts.{name-lacks-equals, count-lacks, description-lacks, value-table-lacks, thematic-index-lacks, narrative-lacks, mark-lacks-semicolon, table-description-lacks, table-narrative-lacks}
-use Rattle.header.specs.declared.Span.{Span}
-use Rattle.header.specs.declared.Definition.{Definition}
 use Rattle.header.specs.Places.{before, seek, decimal, countOf, part, span, nameEnd, countEnd, descriptionEnd, valueTableEnd, thematicIndexEnd, narrativeEnd, definition, firstPlace, placeAfter, column}
 use Rattle.header.specs.Words.{noColumn, columnAt, Shows}
 

@@ -7,15 +7,14 @@ use Prim.Native.Nat.{ℕ, _+_, _<_}
 use native.Mathlib.Omega.{arith}
 use lib.ListN.{length, getD}
 use Rattle.refusal.specs.Order.{refusal}
-use Rattle.refusal.proofs.JudgedLaws.{InOrder, FirstFailing, fine-exactly, refused-exactly, lowest-one, fails-not-each}
+use Rattle.refusal.proofs.JudgedLaws.{InOrder, fine-exactly, refused-exactly, lowest-one, fails-not-each}
 use Rattle.laws.proofs.TestLaws.{clash}
 use Rattle.grammar.specs.Words.{Reading, Reads}
 use Rattle.grammar.proofs.FirstBadByte.{first-bad-byte}
 use Rattle.grammar.proofs.GrammarExact.{grammar-exact}
-use Rattle.header.specs.Judge.{textLength, textOf, tests, headerRefusal}
-use Rattle.header.specs.Words.{columnAt, ColumnSound}
-use Rattle.header.specs.Refusals.{SaysLength, textIn, TextReads, OfLength, OfReading, LeavesGrammar, NotNamedBefore, NamesDiffer, Test, five-bytes, order-letter, text-fits, text-limit, in-grammar, columns-sound, at-most-64, names-differ, one-id, rank, Holds, FailsAt, RefusedWith}
-use Rattle.header.proofs.TestsInWords.{length-said, text-is, reads-text, one-text, judged-five, judged-letter, judged-fits, judged-limit, judged-grammar, judged-sound, judged-64, judged-names, judged-id}
+use Rattle.header.specs.Judge.{textLength, tests, headerRefusal}
+use Rattle.header.specs.Refusals.{SaysLength, textIn, OfLength, OfReading, LeavesGrammar, Test, five-bytes, order-letter, text-fits, text-limit, in-grammar, columns-sound, at-most-64, names-differ, one-id, rank, Holds, FailsAt, RefusedWith}
+use Rattle.header.proofs.TestsInWords.{length-said, one-text, judged-five, judged-letter, judged-fits, judged-limit, judged-grammar, judged-sound, judged-64, judged-names, judged-id}
 
 -- no two tests have one place in the order
 order : List Test

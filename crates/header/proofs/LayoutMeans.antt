@@ -1,24 +1,22 @@
 -- WHAT THE ROWS TAKE FROM AN ACCEPTED HEADER is what its reading says: the order, where the rows start, the columns with their
 -- types, counts, bytes and places, the `id` column, and the one width of the rows or none. Assumes nothing.
 use mathlib.Core.Path.{_≡_, refl, sym, ap, subst, _∙_}
-use mathlib.Core.Logic.{_↔_, by-cases, _⊎_, inl, inr, ⊎-elim}
-use mathlib.Core.Bool.{Bool, true, false, cond, true≢false}
+use mathlib.Core.Logic.{_↔_, by-cases, inl, inr, ⊎-elim}
+use mathlib.Core.Bool.{true, false, true≢false}
 use mathlib.Core.List.{List, [], _∷_, _++_, append-assoc}
 use Prim.Native.Nat.{ℕ, zero, suc, pred, _+_, _-_, _*_, _≤_, _<_}
 use native.Mathlib.Decide.{decLt, decLe}
 use native.Mathlib.Omega.{arith}
-use borrow.Author.Tests.{eq-eqb, ne-eqb, eqb-true}
-use lib.Dec.{eqb}
-use lib.ListN.{length, getD, drop, replicate, length-append}
+use borrow.Author.Tests.{eq-eqb, eqb-true}
+use lib.ListN.{length, getD, replicate, length-append}
 use lib.Seq.{getD-at, drop-at}
 use Rattle.laws.specs.Lowest.{In, Each}
 use Rattle.laws.specs.Sums.{sum}
 use Rattle.laws.proofs.LowestLaws.{bool-cases}
 use Rattle.laws.proofs.SumLaws.{sum-ext, sum-part}
-use Rattle.laws.proofs.TestLaws.{equal}
 use Rattle.number.specs.Bytes.{number}
 use Rattle.grammar.specs.Words as words
-use Rattle.grammar.specs.Words.{star, Column, Reading, Numeral, Reads}
+use Rattle.grammar.specs.Words.{star, Column, Reading, Numeral}
 use Rattle.field.specs.Letters.{letterK}
 use Rattle.field.specs.declared.FieldType.{FieldType}
 use Rattle.field.specs.declared.FieldType.the-variants.{Integer}
@@ -28,18 +26,18 @@ use Rattle.field.proofs.TableRule.{type-of-letter, letter-of-type}
 use Rattle.header.specs.declared.Definition.{Definition}
 use Rattle.header.specs.declared.ColumnLayout.{ColumnLayout}
 use Rattle.header.specs.declared.Layout.{Layout}
-use Rattle.header.specs.Places.{decimal, placeAfter, column}
+use Rattle.header.specs.Places.{placeAfter, column}
 use Rattle.header.specs.Names.{sameText}
-use Rattle.header.specs.Judge.{mostColumns, orderOfFile, textLength, headOf, textOf, columnCount, idName, idColumn, headerRefusal}
+use Rattle.header.specs.Judge.{mostColumns, orderOfFile, textLength, headOf, idName, idColumn}
 use Rattle.header.specs.Layouts.{kindOf, varies, fieldSize, someVaries, bytesOfAll, columnLayout, blankColumn, laidOut, rowWidth, layoutOf, blankLayout, headerOf}
-use Rattle.header.specs.Words.{columnAt, OrderIs, ColumnSound, OneId, Shows, AcceptedHeader}
+use Rattle.header.specs.Words.{columnAt, OrderIs, Shows, AcceptedHeader}
 use Rattle.header.specs.Refusals.{RefusedWith}
 use Rattle.header.specs.LayoutWords.{Varies, layoutAt, ColumnLaidOut, LaidOut}
-use Rattle.header.proofs.ColumnsJudged.{numeral-not-star, shown, well-formed-at, column-named}
+use Rattle.header.proofs.ColumnsJudged.{numeral-not-star, shown, column-named}
 use Rattle.header.proofs.TestsInWords.{order-of-file, length-said}
 use Rattle.header.proofs.AcceptedExactly.{accepted-says}
-use Rattle.header.proofs.RefusedExactly.{refused-exactly}
-use Rattle.header.proofs.StepsInOrder.{accepted-fine, head-reads, accepted-count}
+use Rattle.header.proofs.RefusedExactly.{refused-test}
+use Rattle.header.proofs.StepsInOrder.{accepted-test, head-reads, accepted-count}
 
 -- ---- a column that varies: `*`, or type K
 
@@ -220,11 +218,9 @@ module _ (file : List ℕ) (h : Reading) (a : AcceptedHeader file h) where
   -- THE LAYOUT MEANS WHAT THE READING SAYS
   pub laid-out : LaidOut file h (headerOf file .layout)
   unfolding headerOf
-  laid-out = rw (eq-eqb (headerRefusal file .number) 0 (accepted-fine file h a), layout-counted) laid-out-counted
+  laid-out = rw (accepted-test file h a, layout-counted) laid-out-counted
 
 -- a refused header has a blank layout
 pub refused-blank : (file : List ℕ) (n p : ℕ) → RefusedWith file n p → headerOf file .layout ≡ blankLayout
 unfolding headerOf
-refused-blank file n p w =
-    let r = refused-exactly file n p .1 w in
-    rw (r .0, ne-eqb n 0 (r .1))
+refused-blank file n p w = rw (refused-test file n p w)

@@ -1,10 +1,11 @@
 -- A HEADER IS REFUSED WITH n AT p EXACTLY WHEN a test fails so, at the place that the paper names, and all earlier ones hold.
 -- Assumes nothing.
-use mathlib.Core.Path.{_≡_, refl, sym, ap, subst, _∙_}
+use mathlib.Core.Path.{_≡_, sym, ap, _∙_}
 use mathlib.Core.Logic.{_↔_}
+use mathlib.Core.Bool.{false}
 use mathlib.Core.List.{List}
 use Prim.Native.Nat.{ℕ}
-use borrow.Author.Tests.{eq-eqb, eqb-false, ne-eqb}
+use borrow.Author.Tests.{eqb-false, ne-eqb}
 use lib.Dec.{eqb}
 use Rattle.laws.proofs.LowestLaws.{bool-cases}
 use Rattle.laws.proofs.TestLaws.{clash}
@@ -38,6 +39,10 @@ module _ (file : List ℕ) (n p : ℕ) where
     λ e. refused-exactly .0 (refused-number (headerRefusal file) (refusal n p) .0 e),
     λ w. refused-number (headerRefusal file) (refusal n p) .1 (refused-exactly .1 w),
   )
+
+-- the test that every operation over a header asks first
+pub refused-test : (file : List ℕ) (n p : ℕ) → RefusedWith file n p → eqb (headerRefusal file .number) 0 ≡ false
+refused-test file n p w = let r = refused-exactly file n p .1 w in rw (r .0) (ne-eqb n 0 (r .1))
 
 -- no header is refused in two ways, and none is both accepted and refused
 pub refused-once : (file : List ℕ) (n p m q : ℕ) → RefusedWith file n p → RefusedWith file m q → (n ≡ m) × (p ≡ q)

@@ -1,37 +1,34 @@
 -- The steps through an accepted header give the columns of its reading in order, each moving past exactly its printed definition,
 -- and then the end; a refused header gives its refusal at every place. Assumes nothing.
-use mathlib.Core.Path.{_≡_, refl, sym, ap, subst, _∙_}
-use mathlib.Core.Logic.{by-cases, ⊎-elim}
-use mathlib.Core.Bool.{true, false}
-use mathlib.Core.List.{List, [], _∷_, _++_}
+use mathlib.Core.Path.{_≡_, refl, sym, ap, _∙_}
+use mathlib.Core.Logic.{by-cases}
+use mathlib.Core.Bool.{true}
+use mathlib.Core.List.{List, [], _∷_}
 use Prim.Native.Nat.{ℕ, zero, suc, pred, _+_, _-_, _≤_, _<_}
 use native.Mathlib.Decide.{decLt}
 use native.Mathlib.Omega.{arith}
-use borrow.Author.Tests.{eq-eqb, ne-eqb, lt-ltb, ltb-true, ltb-false}
+use borrow.Author.Tests.{eq-eqb, ne-eqb, ltb-true}
 use lib.Dec.{eqb, ltb}
-use lib.ListN.{length, getD, take, drop, length-take, length-drop}
+use lib.ListN.{length, take, drop, length-take, length-drop}
 use lib.Seq.{take-take}
-use Rattle.laws.specs.Lowest.{lowest}
 use Rattle.laws.specs.Orbit.{iterate}
 use Rattle.laws.proofs.LowestLaws.{bool-cases, lowest-none, lowest-some}
 use Rattle.laws.proofs.PlaceLaws.{drop-take}
-use Rattle.refusal.specs.declared.Refusal.{Refusal}
 use Rattle.refusal.specs.Order.{refusal}
 use Rattle.grammar.specs.Words as words
-use Rattle.grammar.specs.Words.{semicolon, printedMark, printedColumn, printedColumns, Reading, Reads}
+use Rattle.grammar.specs.Words.{semicolon, printedMark, printedColumn, Reading, Reads}
 use Rattle.header.specs.declared.Span.{Span}
 use Rattle.header.specs.declared.Definition.{Definition}
-use Rattle.header.specs.declared.Step.{Step}
 use Rattle.header.specs.declared.Step.the-variants.{Column, Done, Refused}
-use Rattle.header.specs.Places.{before, seek, part, definition, firstPlace, placeAfter, column}
+use Rattle.header.specs.Places.{before, seek, part, definition, placeAfter, column}
 use Rattle.header.specs.Judge.{headOf, textOf, textLength, columnCount, headerRefusal}
 use Rattle.header.specs.Steps.{startsAt, stepFrom, stepOf, placeOf, startOf}
 use Rattle.header.specs.Words.{columnAt, Shows, AcceptedHeader}
 use Rattle.header.specs.Refusals.{RefusedWith}
-use Rattle.header.proofs.ColumnsShown.{column-shown, first-stands, first-place, last-stands, place-next, place-further}
+use Rattle.header.proofs.ColumnsShown.{column-shown, first-place, last-stands, place-next, place-further}
 use Rattle.header.proofs.TestsInWords.{reads-text, column-count}
 use Rattle.header.proofs.AcceptedExactly.{accepted-text, accepted-exactly}
-use Rattle.header.proofs.RefusedExactly.{refused-exactly}
+use Rattle.header.proofs.RefusedExactly.{refused-exactly, refused-test}
 
 -- ---- what is shown in the head is shown in the file: a field ends inside the head
 
@@ -76,15 +73,11 @@ stepped file k p = iterate (λ q. placeOf q (stepOf file q)) k p
 -- ---- a refused header
 pub refused-everywhere : (file : List ℕ) (n p : ℕ) → RefusedWith file n p → (place : ℕ) → stepOf file place ≡ Refused (refusal n p)
 unfolding stepOf
-refused-everywhere file n p w place =
-    let r = refused-exactly file n p .1 w in
-    rw (r .0, ne-eqb n 0 (r .1))
+refused-everywhere file n p w place = rw (refused-test file n p w) (ap Refused (refused-exactly file n p .1 w .0))
 
 pub refused-start : (file : List ℕ) (n p : ℕ) → RefusedWith file n p → startOf file ≡ 0
 unfolding startOf
-refused-start file n p w =
-    let r = refused-exactly file n p .1 w in
-    rw (r .0, ne-eqb n 0 (r .1))
+refused-start file n p w = rw (refused-test file n p w)
 
 -- ---- an accepted header, with its reading
 module _ (file : List ℕ) (h : Reading) (a : AcceptedHeader file h) where
@@ -94,8 +87,9 @@ module _ (file : List ℕ) (h : Reading) (a : AcceptedHeader file h) where
   abbrev columns : ℕ
   columns = length (h .columns)
 
-  pub accepted-fine : headerRefusal file .number ≡ 0
-  accepted-fine = accepted-exactly file .1 (h, a)
+  -- the test that every operation over a header asks first
+  pub accepted-test : eqb (headerRefusal file .number) 0 ≡ true
+  accepted-test = eq-eqb (headerRefusal file .number) 0 (accepted-exactly file .1 (h, a))
 
   pub head-reads : Reads (textOf file) h
   head-reads = reads-text file h (accepted-text file h a)
@@ -105,7 +99,7 @@ module _ (file : List ℕ) (h : Reading) (a : AcceptedHeader file h) where
 
   accepted-step : (place : ℕ) → stepOf file place ≡ stepFrom head columns place (startsAt head columns place)
   unfolding stepOf
-  accepted-step place = rw (eq-eqb (headerRefusal file .number) 0 accepted-fine, accepted-count)
+  accepted-step place = rw (accepted-test, accepted-count)
 
   -- the places stand one beyond the other
   places-ascend : (j k : ℕ) → j < k → k ≤ columns → placeAfter head j < placeAfter head k
@@ -118,7 +112,7 @@ module _ (file : List ℕ) (h : Reading) (a : AcceptedHeader file h) where
   -- A NEW READER stands at the first definition
   pub start-is-first : startOf file ≡ placeAfter head 0
   unfolding startOf placeAfter
-  start-is-first = rw (eq-eqb (headerRefusal file .number) 0 accepted-fine)
+  start-is-first = rw accepted-test
 
   -- the first definition is past the order letter, the two fields of the table and their `;`
   pub start-place : startOf file ≡ 4 + length (printedMark (h .mark)) + length (h .description) + length (h .narrative) + 3

@@ -2,24 +2,23 @@
 -- that the paper names. Assumes nothing.
 use mathlib.Core.Path.{_≡_, refl, sym, ap, subst, _∙_}
 use mathlib.Core.Logic.{_↔_, _⊎_, inl, inr, ⊎-elim}
-use mathlib.Core.Bool.{Bool, true, false, cond, not, true≢false}
-use mathlib.Core.List.{List, [], _∷_}
+use mathlib.Core.Bool.{true, false, not, true≢false}
+use mathlib.Core.List.{List}
 use Prim.Native.Nat.{ℕ, _+_, _-_, _≤_, _<_}
 use native.Mathlib.Omega.{arith}
-use borrow.Author.Tests.{eq-eqb, ne-eqb, eqb-true, eqb-false, ltb-true, ltb-false}
+use borrow.Author.Tests.{eqb-true, ltb-true, ltb-false}
 use lib.Dec.{eqb, ltb}
-use lib.ListN.{length, getD, take, drop}
-use Rattle.laws.specs.Lowest.{lowest, In, Each, LowestFailing}
+use lib.ListN.{length}
+use Rattle.laws.specs.Lowest.{lowest, In}
 use Rattle.laws.proofs.TestLaws.{denied, clash}
 use Rattle.laws.proofs.LowestLaws.{bool-cases}
 use Rattle.laws.proofs.PlaceLaws.{drop-take}
-use Rattle.refusal.specs.Order.{refusal, refusedIf, located, lowestOf}
+use Rattle.refusal.specs.Order.{refusedIf, located, lowestOf}
 use Rattle.refusal.proofs.JudgedLaws.{Judged, judged-lowest, judged-lowest-of, judged-once}
 use Rattle.number.specs.declared.Order.{Order}
 use Rattle.number.specs.declared.Order.the-variants.{Least, Most}
-use Rattle.number.specs.declared.OrderLetter.{OrderLetter}
 use Rattle.number.specs.declared.OrderLetter.the-variants.{Is, Unlisted}
-use Rattle.number.specs.Bytes.{orderOf, number}
+use Rattle.number.specs.Bytes.{orderOf}
 use Rattle.grammar.specs.Words.{Reading, Reads}
 use Rattle.grammar.specs.declared.Scan.{Scan}
 use Rattle.grammar.specs.declared.Scan.the-variants.{Columns, BadByte}
@@ -29,9 +28,9 @@ use Rattle.grammar.proofs.FirstBadByte.{first-bad-byte}
 use Rattle.grammar.proofs.OneReading.{reads-once}
 use Rattle.header.specs.Places.{column}
 use Rattle.header.specs.Names.{namedBefore}
-use Rattle.header.specs.Judge.{mostText, mostColumns, orderByte, listed, orElseLeast, orderOfFile, textLength, headOf, textOf, grammarRefusal, columnsOf, columnCount, sound, columnRefusal, idWrong}
+use Rattle.header.specs.Judge.{mostText, mostColumns, orderByte, listed, orderOfFile, textLength, headOf, textOf, grammarRefusal, columnCount, sound, columnRefusal, idWrong}
 use Rattle.header.specs.Words.{columnAt, OrderIs, by-L, by-M, by-none, ColumnSound, OneId}
-use Rattle.header.specs.Refusals.{SaysLength, textIn, TextReads, OfLength, OfReading, LeavesGrammar, NotNamedBefore, NamesDiffer, Test, five-bytes, order-letter, text-fits, text-limit, in-grammar, columns-sound, at-most-64, names-differ, one-id, Holds, FailsAt}
+use Rattle.header.specs.Refusals.{SaysLength, textIn, TextReads, OfLength, OfReading, LeavesGrammar, NotNamedBefore, NamesDiffer, five-bytes, order-letter, text-fits, text-limit, in-grammar, columns-sound, at-most-64, names-differ, one-id, Holds, FailsAt}
 use Rattle.header.proofs.ColumnsJudged.{sound-at, named-exactly, id-exactly}
 
 -- ---- the order that byte 4 gives

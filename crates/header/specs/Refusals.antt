@@ -6,7 +6,7 @@ use mathlib.Core.Bool.{true}
 use mathlib.Core.List.{List}
 use Prim.Native.Nat.{ℕ, _+_, _≤_, _<_}
 use lib.ListN.{length, getD, take, drop}
-use Rattle.laws.specs.Lowest.{In, Each, LowestFailing}
+use Rattle.laws.specs.Lowest.{Each, LowestFailing}
 use Rattle.number.specs.declared.Order.{Order}
 use Rattle.number.specs.Bytes.{number}
 use Rattle.grammar.specs.Words.{Reading, Reads, FirstBad, EndsTooSoon}

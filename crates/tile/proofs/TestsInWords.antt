@@ -14,12 +14,10 @@ use Rattle.laws.specs.Lowest.{lowest, At, In, Each, LowestFailing}
 use Rattle.laws.specs.Sums.{hits, Inj, Into}
 use Rattle.laws.specs.Orbit.{entry, meets, owner, firstDoubled, firstTaken, firstUnmet}
 use Rattle.laws.proofs.TestLaws.{or-false, and-false, and-true, denied, refuted, equal, not-unequal, nonzero, not-above}
-use Rattle.laws.proofs.LowestLaws.{bool-cases, lowest-cases, lowest-some, lowest-none, lowest-pos, lowest-zero}
+use Rattle.laws.proofs.LowestLaws.{bool-cases, lowest-some, lowest-pos}
 use Rattle.laws.proofs.SumLaws.{sum-most, hits-single, hits-some, hits-one, inj-of}
 use Rattle.laws.proofs.OrbitLaws.{meets-of, of-meets}
-use Rattle.refusal.specs.declared.Refusal.{Refusal}
-use Rattle.refusal.specs.Order.{refusal, refusedIf, located, refuses, atRow, lowestOf}
-use Rattle.refusal.proofs.OrderLaws.{located-zero, located-at}
+use Rattle.refusal.specs.Order.{refusal, refusedIf, located, lowestOf}
 use Rattle.refusal.proofs.JudgedLaws.{Judged, judged-lowest, none-found, judged-lowest-of, judged-once}
 use Rattle.side.specs.declared.Successor.{Successor}
 use Rattle.side.specs.declared.Successor.the-variants.{Side, Wrong}

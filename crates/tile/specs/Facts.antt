@@ -1,12 +1,11 @@
 -- The listed facts about nodes, faces, edges and rings, in the paper's words; and what each refusal says.
 use mathlib.Core.Path.{_≡_}
 use mathlib.Core.Logic.{_⊎_}
-use mathlib.Core.List.{List}
-use Prim.Native.Nat.{ℕ, suc, _+_, _*_, _≤_, _<_}
+use Prim.Native.Nat.{ℕ, suc, _+_, _≤_, _<_}
 use lib.ListN.{length}
 use Rattle.laws.specs.Lowest.{In, Each, LowestFailing}
 use Rattle.laws.specs.Orbit.{entry, iterate}
-use Rattle.side.specs.Edges.{Edges, edgeOf, right, left, face}
+use Rattle.side.specs.Edges.{right, left, face}
 use Rattle.side.specs.Successor.{Follows, Fault, after}
 use Rattle.tile.specs.Columns.{Tile, E, F, R, N, sides, mostRows, startSide}
 
