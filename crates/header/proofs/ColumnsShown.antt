@@ -198,10 +198,12 @@ module _ (s : List ℕ) (h : Reading) (r : Reads (drop 4 s) h) where
   pub first-place : firstPlace s ≡ 4 + length (printedMark (h .mark)) + length (h .description) + length (h .narrative) + 3
   unfolding firstPlace
   first-place =
-      omega (arith,
-      seek-to s 4 semicolon (printedMark (h .mark)) _ mark-stands (mark-lacks-semicolon (h .mark)),
-      seek-to s (markEnd + 1) semicolon (h .description) _ table-stands (table-description-lacks h (r .well-formed)),
-      seek-to s (tableEnd + 1) semicolon (h .narrative) from-columns table-narrative-stands (table-narrative-lacks h (r .well-formed)))
+      omega (
+        arith,
+        seek-to s 4 semicolon (printedMark (h .mark)) _ mark-stands (mark-lacks-semicolon (h .mark)),
+        seek-to s (markEnd + 1) semicolon (h .description) _ table-stands (table-description-lacks h (r .well-formed)),
+        seek-to s (tableEnd + 1) semicolon (h .narrative) from-columns table-narrative-stands (table-narrative-lacks h (r .well-formed)),
+      )
 
   abbrev from-column : ℕ → List ℕ
   from-column k = printedColumns (drop k (h .columns)) ++ (semicolon ∷ [])

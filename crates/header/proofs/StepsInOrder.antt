@@ -128,7 +128,7 @@ module _ (file : List ℕ) (h : Reading) (a : AcceptedHeader file h) where
   column-step k l =
       accepted-step (placeAfter head k)
       ∙ found (placeAfter head k) (startsAt head columns (placeAfter head k))
-        (lowest-some (λ j. eqb (placeAfter head (pred j)) (placeAfter head k)) columns (suc k) (omega arith) l (eq-eqb (placeAfter head k) (placeAfter head k) refl))
+      (lowest-some (λ j. eqb (placeAfter head (pred j)) (placeAfter head k)) columns (suc k) (omega arith) l (eq-eqb (placeAfter head k) (placeAfter head k) refl))
 
   pub step-shows : (k : ℕ) → k < columns → Shows file (placeAfter head k) (columnAt h (suc k)) (column head (suc k))
   unfolding headOf

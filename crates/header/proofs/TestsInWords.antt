@@ -124,9 +124,14 @@ module _ (file : List ℕ) where
     judged-scan : (c : Scan) → scanOf (textOf file) ≡ c → Judged (grammarRefusal c) (Holds file in-grammar) (FailsAt file in-grammar)
     judged-scan (Columns n) e = let r = grammar-exact n (textOf file) .0 e in inl (refl, (r .0, text-reads (r .0) w (r .1)))
     judged-scan (BadByte i) e =
-        inr (λ z. omega arith,
-        (refl, of-length (λ l. LeavesGrammar (textIn file l) (i + 4))
-        (subst (λ (s : List ℕ). LeavesGrammar s (i + 4)) text-is (record { byte = i; place = refl; leaves = first-bad-byte (textOf file) i .0 e }))))
+        inr (
+          λ z. omega arith,
+          (
+            refl,
+            of-length (λ l. LeavesGrammar (textIn file l) (i + 4))
+                (subst (λ (s : List ℕ). LeavesGrammar s (i + 4)) text-is (record { byte = i; place = refl; leaves = first-bad-byte (textOf file) i .0 e })),
+          ),
+        )
 
     pub judged-grammar : Judged (grammarRefusal (scanOf (textOf file))) (Holds file in-grammar) (FailsAt file in-grammar)
     judged-grammar = judged-scan (scanOf (textOf file)) refl
