@@ -2,7 +2,7 @@
 use mathlib.Core.Path.{_≡_, refl, sym, ap, subst, _∙_}
 use mathlib.Core.Logic.{_↔_, by-cases, _⊎_, inl, inr, ⊎-elim}
 use mathlib.Core.Bool.{Bool, true, false, not, _||_, true≢false}
-use mathlib.Core.List.{List, [], _∷_}
+use mathlib.Core.List.{List, [], _∷_, map}
 use Prim.Native.Nat.{ℕ, zero, suc, pred, _+_, _-_, _*_, _≤_}
 use native.Mathlib.Decide.{decLt}
 use native.Mathlib.Omega.{arith}
@@ -119,18 +119,19 @@ module _ (s : List ℕ) (p : ℕ) (c : Column) (d : Definition) (w : Shows s p c
         λ g. let b = o .1 (g .1 .0) in f .1 (w .type ∙ g .0, (b .0, (b .1, w .key ∙ g .1 .1))),
       )
 
--- ---- "case ignored": two texts that are the same as a third are the same
-pub same-as-third : (a b c : List ℕ) → sameText a c ≡ true → sameText b c ≡ true → sameText a b ≡ true
-same-as-third [] [] c e g = refl
-same-as-third [] (y ∷ b) [] e g = absurd (true≢false (sym g))
-same-as-third [] (y ∷ b) (z ∷ c) e g = absurd (true≢false (sym e))
-same-as-third (x ∷ a) [] [] e g = absurd (true≢false (sym e))
-same-as-third (x ∷ a) [] (z ∷ c) e g = absurd (true≢false (sym g))
-same-as-third (x ∷ a) (y ∷ b) [] e g = absurd (true≢false (sym e))
-same-as-third (x ∷ a) (y ∷ b) (z ∷ c) e g =
-    let u = and-true _ _ (equal (lower x) (lower z)) (itself (sameText a c)) .0 e in
-    let v = and-true _ _ (equal (lower y) (lower z)) (itself (sameText b c)) .0 g in
-    and-true _ _ (equal (lower x) (lower y)) (itself (sameText a b)) .1 (u .0 ∙ sym (v .0), same-as-third a b c (u .1) (v .1))
+-- ---- "case ignored": two texts are the same exactly when they are one text in small letters
+pub same-text-exactly : (a b : List ℕ) → (sameText a b ≡ true) ↔ (map lower a ≡ map lower b)
+same-text-exactly [] [] = (λ e. refl, λ e. refl)
+same-text-exactly [] (y ∷ b) = (λ e. absurd (true≢false (sym e)), λ e. clash (cc))
+same-text-exactly (x ∷ a) [] = (λ e. absurd (true≢false (sym e)), λ e. clash (cc))
+same-text-exactly (x ∷ a) (y ∷ b) =
+    let w = and-true _ _ (equal (lower x) (lower y)) (same-text-exactly a b) in (
+      λ e. let g = w .0 e in λ i. g .0 i ∷ g .1 i,
+      λ e. w .1 (cc, cc),
+    )
+
+same-as-third : (a b c : List ℕ) → sameText a c ≡ true → sameText b c ≡ true → sameText a b ≡ true
+same-as-third a b c e g = same-text-exactly a b .1 (same-text-exactly a c .0 e ∙ sym (same-text-exactly b c .0 g))
 
 -- ---- the columns of a head whose text is read as h
 module _ (s : List ℕ) (h : Reading) (r : Reads (drop 4 s) h) where
