@@ -4,3 +4,4 @@ pub mod BufferLaws
 pub mod OrbitLaws
 pub mod MarkLaws
 pub mod MachineLaws
+pub mod EntryLaws

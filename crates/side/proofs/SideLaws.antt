@@ -1,0 +1,36 @@
+-- The steps of the successor's code: four rows read and the side chosen of them; the right and the left side followed.
+-- Assumes nothing.
+use mathlib.Core.Path.{_≡_, _∙_}
+use Prim.Native.Nat.{ℕ, _%_, _≤_, _<_}
+use borrow.Author.Tests.{eq-eqb, ne-eqb, lt-ltb, le-ltb}
+use Rattle.laws.specs.Orbit.{entry}
+use Rattle.side.specs.Edges.{Edges, edgeCount, edgeOf}
+use Rattle.side.specs.Successor.{leaving, leavingEdge, successor}
+use Rattle.side.specs.declared.Successor.{Successor}
+use Rattle.side.specs.declared.Successor.the-variants.{Side, Wrong}
+
+module _ (t : Edges) where
+  pub link-zero : (k v f : ℕ) → k ≡ 0 → Wrong 22 ≡ leavingEdge t k v f
+  unfolding leavingEdge
+  link-zero k v f z = rw (eq-eqb k 0 z)
+
+  pub link-beyond : (k v f : ℕ) → (k ≡ 0 → ⊥) → edgeCount t < k → Wrong 22 ≡ leavingEdge t k v f
+  unfolding leavingEdge
+  link-beyond k v f z h = rw (ne-eqb k 0 z, lt-ltb (edgeCount t) k h)
+
+module _ (t : Edges) (r : Successor) where
+  pub chosen : (k v f sn en rf lf : ℕ) → (k ≡ 0 → ⊥) → k ≤ edgeCount t
+      → sn ≡ entry (t .startNode) k → en ≡ entry (t .endNode) k → rf ≡ entry (t .rightFace) k → lf ≡ entry (t .leftFace) k
+      → r ≡ leaving sn en rf lf k v f → r ≡ leavingEdge t k v f
+  unfolding leavingEdge
+  chosen k v f sn en rf lf z h p q x y e = rw (ne-eqb k 0 z, le-ltb (edgeCount t) k h) (e ∙ (λ i. leaving (p i) (q i) (x i) (y i) k v f))
+
+  pub right-follows : (s k v f : ℕ) → s % 2 ≡ 1 → k ≡ entry (t .rightEdge) (edgeOf s) → v ≡ entry (t .endNode) (edgeOf s) → f ≡ entry (t .rightFace) (edgeOf s)
+      → r ≡ leavingEdge t k v f → r ≡ successor t s
+  unfolding successor
+  right-follows s k v f h p q x e = rw (eq-eqb (s % 2) 1 h) (e ∙ (λ i. leavingEdge t (p i) (q i) (x i)))
+
+  pub left-follows : (s k v f : ℕ) → (s % 2 ≡ 1 → ⊥) → k ≡ entry (t .leftEdge) (edgeOf s) → v ≡ entry (t .startNode) (edgeOf s) → f ≡ entry (t .leftFace) (edgeOf s)
+      → r ≡ leavingEdge t k v f → r ≡ successor t s
+  unfolding successor
+  left-follows s k v f h p q x e = rw (ne-eqb (s % 2) 1 h) (e ∙ (λ i. leavingEdge t (p i) (q i) (x i)))
