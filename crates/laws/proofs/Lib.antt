@@ -5,3 +5,4 @@ pub mod OrbitLaws
 pub mod MarkLaws
 pub mod MachineLaws
 pub mod EntryLaws
+pub mod LeastLaws
