@@ -81,33 +81,50 @@ module _ (p : ℕ → Bool) (g : ℕ → ℕ) where
   row-passes n v e h (inl c) =
       rw (lesser-left v (g (suc n)) (c .0))
       (record {
-        row = suc n; pos = omega arith; within = le-refl (suc n); passes = e; has = refl;
-        below = λ k u w t. by-cases (decLe k n) (λ d. absurd (true≢false (sym t ∙ c .1 .fails k u d))) (λ d. let q : k ≡ suc n = omega arith in rw q (le-refl (g (suc n))))
+        row = suc n;
+        pos = omega arith;
+        within = le-refl (suc n);
+        passes = e;
+        has = refl;
+        below = λ k u w t. by-cases (decLe k n) (λ d. absurd (true≢false (sym t ∙ c .1 .fails k u d))) (λ d. let q : k ≡ suc n = omega arith in rw q (le-refl (g (suc n))));
       })
   row-passes n v e h (inr c) =
       by-cases (decLt v (g (suc n)))
       (λ l.
       rw (lesser-less v (g (suc n)) (c .0) l)
       (record {
-        row = c .1 .row; pos = c .1 .pos; within = omega (arith, c .1 .within); passes = c .1 .passes; has = c .1 .has;
-        below = λ k u w t. by-cases (decLe k n) (λ d. c .1 .below k u d t) (λ d. let q : k ≡ suc n = omega arith in rw q (omega arith))
+        row = c .1 .row;
+        pos = c .1 .pos;
+        within = omega (arith, c .1 .within);
+        passes = c .1 .passes;
+        has = c .1 .has;
+        below = λ k u w t. by-cases (decLe k n) (λ d. c .1 .below k u d t) (λ d. let q : k ≡ suc n = omega arith in rw q (omega arith));
       }))
       (λ l.
       rw (lesser-more v (g (suc n)) h (omega arith))
       (record {
-        row = suc n; pos = omega arith; within = le-refl (suc n); passes = e; has = refl;
-        below = λ k u w t. by-cases (decLe k n) (λ d. omega (arith, c .1 .below k u d t)) (λ d. let q : k ≡ suc n = omega arith in rw q (le-refl (g (suc n))))
+        row = suc n;
+        pos = omega arith;
+        within = le-refl (suc n);
+        passes = e;
+        has = refl;
+        below = λ k u w t. by-cases (decLe k n) (λ d. omega (arith, c .1 .below k u d t)) (λ d. let q : k ≡ suc n = omega arith in rw q (le-refl (g (suc n))));
       }))
 
   row-fails : (n v : ℕ) → p (suc n) ≡ false → ((v ≡ 0) × None p n) ⊎ ((0 < v) × LeastAt p g n v) → ((v ≡ 0) × None p (suc n)) ⊎ ((0 < v) × LeastAt p g (suc n) v)
   row-fails n v e (inl c) = inl (c .0, record { fails = λ k u w. by-cases (decLe k n) (λ d. c .1 .fails k u d) (λ d. let q : k ≡ suc n = omega arith in rw q e) })
   row-fails n v e (inr c) =
-      inr
-      (c .0,
-      record {
-        row = c .1 .row; pos = c .1 .pos; within = omega (arith, c .1 .within); passes = c .1 .passes; has = c .1 .has;
-        below = λ k u w t. by-cases (decLe k n) (λ d. c .1 .below k u d t) (λ d. let q : k ≡ suc n = omega arith in absurd (true≢false (sym (rw q at t) ∙ e)))
-      })
+      inr (
+        c .0,
+        record {
+          row = c .1 .row;
+          pos = c .1 .pos;
+          within = omega (arith, c .1 .within);
+          passes = c .1 .passes;
+          has = c .1 .has;
+          below = λ k u w t. by-cases (decLe k n) (λ d. c .1 .below k u d t) (λ d. let q : k ≡ suc n = omega arith in absurd (true≢false (sym (rw q at t) ∙ e)));
+        },
+      )
 
   pub least-cases : (n : ℕ) → ((k : ℕ) → 0 < k → k ≤ n → 0 < g k) → ((least p g n ≡ 0) × None p n) ⊎ ((0 < least p g n) × LeastAt p g n (least p g n))
   least-cases zero h = inl (refl, record { fails = λ k u v. absurd (omega arith) })

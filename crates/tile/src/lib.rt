@@ -1,4 +1,7 @@
 // A tile checked and walked.
+mod columns;
+mod sizes;
+
 use refusal::Refusal;
 
 pub enum Verdict {
