@@ -167,5 +167,5 @@ module _ (p : ℕ → Bool) (g : ℕ → ℕ) where
       none-le e = omega arith
 
   -- as a loop has it, at `n + 1`
-  pub least-next : (n v x w : ℕ) → v ≡ least p g n → x ≡ cond (p (n + 1)) (g (n + 1)) 0 → w ≡ lesser v x → w ≡ least p g (n + 1)
-  least-next n v x w a b c = rw add-one (c ∙ (λ i. lesser (a i) ((b ∙ ap (λ (k : ℕ). cond (p k) (g k) 0) (add-one n)) i)))
+  pub least-next : (n v x w : ℕ) → v ≡ least p g n → x ≡ cond (p (suc n)) (g (suc n)) 0 → w ≡ lesser v x → w ≡ least p g (n + 1)
+  least-next n v x w a b c = rw add-one (c ∙ (λ i. lesser (a i) (b i)))

@@ -37,6 +37,12 @@ pub located-at : (n p : ℕ) → (p ≡ 0 → ⊥) → located n p ≡ refusal n
 unfolding located
 located-at n p h = rw (ne-eqb p 0 h)
 
+pub located-fine : (n p : ℕ) → (n ≡ 0 → ⊥) → located n p .number ≡ 0 → p ≡ 0
+located-fine n p h e =
+    bool-cases (eqb p 0)
+    (λ t. eqb-true p 0 t)
+    (λ t. absurd (h (sym (ap (λ (r : Refusal). r .number) (located-at n p (eqb-false p 0 t))) ∙ e)))
+
 -- ---- a loop over rows: row i + 1 is fine; is the lowest that refuses; no row refuses
 pub on-next : (f : ℕ → Refusal) (i : ℕ) (q : Refusal) → None (refuses f) i → q ≡ f (i + 1) → q .number ≡ 0 → None (refuses f) (i + 1)
 on-next f i q h e z =

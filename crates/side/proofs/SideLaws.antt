@@ -1,13 +1,27 @@
 -- The steps of the successor's code: four rows read and the side chosen of them; the right and the left side followed.
 -- Assumes nothing.
-use mathlib.Core.Path.{_≡_, _∙_}
+use mathlib.Core.Path.{_≡_, refl, _∙_}
+use mathlib.Core.Bool.{Bool, true, false, _||_, true≢false}
 use Prim.Native.Nat.{ℕ, _%_, _≤_, _<_}
-use borrow.Author.Tests.{eq-eqb, ne-eqb, lt-ltb, le-ltb}
+use native.Mathlib.Omega.{arith}
+use lib.Dec.{eqb, ltb}
+use borrow.Author.Tests.{eq-eqb, ne-eqb, lt-ltb, le-ltb, eqb-false, ltb-false}
 use Rattle.laws.specs.Orbit.{entry}
-use Rattle.side.specs.Edges.{Edges, edgeCount, edgeOf}
+use Rattle.side.specs.Edges.{Edges, edgeCount, edgeOf, outside}
 use Rattle.side.specs.Successor.{leaving, leavingEdge, successor}
 use Rattle.side.specs.declared.Successor.{Successor}
 use Rattle.side.specs.declared.Successor.the-variants.{Side, Wrong}
+
+or-false : (a b : Bool) → (a || b) ≡ false → (a ≡ false) × (b ≡ false)
+or-false true b e = absurd (true≢false e)
+or-false false b e = (refl, e)
+
+-- a number that is not outside is one of 1..most
+pub not-outside : (most x : ℕ) → outside most x ≡ false → (0 < x) × (x ≤ most)
+not-outside most x e =
+    let h = or-false (eqb x 0) (ltb most x) e in
+    let z = eqb-false x 0 (h .0) in
+    (omega arith, ltb-false most x (h .1))
 
 module _ (t : Edges) where
   pub link-zero : (k v f : ℕ) → k ≡ 0 → Wrong 22 ≡ leavingEdge t k v f

@@ -82,8 +82,11 @@ runElsewhere t = beginsElsewhere (t .ringPtr) (t .facId)
 abbrev pub pointsAway : List ℕ → List ℕ → ℕ → Bool
 pointsAway ringPtr facId f = not (eqb (entry facId (entry ringPtr f)) f)
 
+abbrev pub runBroken : List ℕ → List ℕ → ℕ → Bool
+runBroken ringPtr facId f = pointsAway ringPtr facId f || ltb 0 (lowest (λ r. eqb (entry facId r) f && beginsElsewhere ringPtr facId r) (length facId))
+
 abbrev pub runWrong : Tile → ℕ → Bool
-runWrong t f = pointsAway (t .ringPtr) (t .facId) f || ltb 0 (lowest (λ r. eqb (entry (t .facId) r) f && runElsewhere t r) (R t))
+runWrong t = runBroken (t .ringPtr) (t .facId)
 
 -- 29: a start that is neither a side with the ring's face nor the allowed 0
 abbrev pub startWrong : Tile → ℕ → Bool

@@ -1,6 +1,8 @@
 -- The list of tests in parts, each over the columns that it needs: the list of `Check` is these parts joined.
-use mathlib.Core.List.{List, [], _∷_, _++_}
+use mathlib.Core.Bool.{Bool, not, _&&_}
+use mathlib.Core.List.{List, [], _∷_}
 use Prim.Native.Nat.{ℕ}
+use lib.Dec.{eqb}
 use lib.ListN.{length}
 use Rattle.laws.specs.Lowest.{lowest}
 use Rattle.laws.specs.Orbit.{entry, firstTaken, firstUnmet, firstDoubled}
@@ -8,7 +10,8 @@ use Rattle.refusal.specs.declared.Refusal.{Refusal}
 use Rattle.refusal.specs.Order.{located, lowestOf}
 use Rattle.side.specs.Edges.{Edges, edgeCount, sideCount}
 use Rattle.side.specs.Successor.{after}
-use Rattle.tile.specs.Check.{rowOutside, edgeSideRefusal}
+use Rattle.tile.specs.Columns.{sideWith, emptyAllowed}
+use Rattle.tile.specs.Check.{rowOutside, edgeSideRefusal, edgeAway, entryOutside, runBroken}
 
 -- 20 to 25: the rows and the sides of the edge table, in a tile with so many faces and nodes
 unfoldable pub edgeTests : Edges → ℕ → ℕ → List Refusal
@@ -17,4 +20,18 @@ edgeTests t faces nodes =
     ∷ located 21 (lowest (rowOutside faces (t .rightFace) (t .leftFace)) (edgeCount t))
     ∷ located 22 (lowest (rowOutside (edgeCount t) (t .rightEdge) (t .leftEdge)) (edgeCount t))
     ∷ lowestOf (edgeSideRefusal t) (sideCount t)
+    ∷ []
+
+-- 29: of a ring with the face f and the start edge e, in a tile with so many edges, faces and rings
+unfoldable pub startMissing : ℕ → ℕ → ℕ → List ℕ → List ℕ → ℕ → ℕ → Bool
+startMissing edgeRows faceRows ringRows rightFace leftFace f e =
+    not (emptyAllowed edgeRows faceRows ringRows e) && eqb (sideWith edgeRows rightFace leftFace f e) 0
+
+-- 27 to 29: the first edges, the rings' faces, the faces' runs and the rings' starts
+unfoldable pub ringTests : List ℕ → List ℕ → List ℕ → List ℕ → List ℕ → List ℕ → List ℕ → List ℕ → List Refusal
+ringTests startNode endNode rightFace leftFace ringPtr facId startEdge firstEdge =
+    located 27 (lowest (λ n. edgeAway startNode endNode n (entry firstEdge n)) (length firstEdge))
+    ∷ located 28 (lowest (entryOutside (length ringPtr) facId) (length facId))
+    ∷ located 28 (lowest (runBroken ringPtr facId) (length ringPtr))
+    ∷ located 29 (lowest (λ r. startMissing (length startNode) (length ringPtr) (length facId) rightFace leftFace (entry facId r) (entry startEdge r)) (length facId))
     ∷ []

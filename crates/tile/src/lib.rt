@@ -1,6 +1,8 @@
 // A tile checked and walked.
 mod columns;
+mod runs;
 mod sizes;
+mod starts;
 
 use refusal::Refusal;
 
