@@ -15,11 +15,11 @@ use Rattle.laws.specs.Lowest.{firstNonzero, lowest, None}
 use Rattle.laws.specs.Orbit.{entry, iterate, meets, firstReturn, owner, firstTaken, firstUnmet, firstDoubled}
 use Rattle.laws.specs.Buffer.{front}
 use Rattle.laws.specs.Sums.{Inj, Into, hits}
-use Rattle.laws.specs.Marks.{zeros, kept, count, painted, ownerAt, alreadyMet}
+use Rattle.laws.specs.Marks.{zeros, kept, count, painted, ownerAt, alreadyMet, Starts}
 use Rattle.laws.proofs.SumLaws.{inj-of, hits-one}
-use Rattle.laws.proofs.LowestLaws.{none-next, lowest-next, lowest-nothing, lowest-ext, lowest-zero}
+use Rattle.laws.proofs.LowestLaws.{none-next, lowest-next, lowest-nothing, lowest-none, lowest-ext, lowest-zero}
 use Rattle.laws.proofs.BufferLaws.{front-low, front-put, front-of, front-ext, front-over}
-use Rattle.laws.proofs.OrbitLaws.{iterate-in, meets-hit, meets-miss, paint-row}
+use Rattle.laws.proofs.OrbitLaws.{iterate-in, meets-hit, meets-miss, meets-round, from-zero, never-zero, paint-row}
 
 
 
@@ -61,6 +61,21 @@ module _ (f : ℕ → ℕ) (n : ℕ) (d e : List ℕ) (w : Into f n n) (room : n
       (front-put (painted f d a row i) (painted f d a row (suc i)) n d e (t - 1) row room q (omega arith)
       (rw (meets-hit f i a (suc (t - 1)) (sym r' ∙ sym s)) refl)
       (λ k b c. rw (meets-miss f i a (suc k) (λ m. c (omega arith))) refl))
+
+  -- the start is back: what is painted is what all n moves would paint
+  pub paint-back : Inj f n → (i t : ℕ) → t ≡ iterate f (i + 1) a → t ≡ a → i < n → None (λ k. eqb (iterate f k a) a) i → e ≡ front (painted f d a row (i + 1)) n d → e ≡ front (painted f d a row n) n d
+  paint-back j i t r b l N q =
+      let z : i + 1 ≡ firstReturn f n a = lowest-next (λ k. eqb (iterate f k a) a) n i l N (eq-eqb (iterate f (suc i) a) a (sym (rw add-one at r) ∙ b)) in
+      q
+      ∙ front-ext (painted f d a row (i + 1)) (painted f d a row n) n d
+      (λ k u. ap (λ (c : Bool). cond c row (getD d k 0)) (ap (λ (m : ℕ). meets f m a (suc k)) z ∙ meets-round f n w j a x y (suc k)))
+
+-- the start is 0: nothing is painted
+pub paint-none : (f : ℕ → ℕ) (n : ℕ) (d : List ℕ) (a row : ℕ) → f 0 ≡ 0 → n ≤ length d → a ≡ 0 → d ≡ front (painted f d a row n) n d
+paint-none f n d a row z h e =
+    front-of (painted f d a row n) n d d h refl
+    (λ i u. sym (ap (λ (b : Bool). cond b row (getD d i 0)) (ap (λ (k : ℕ). meets f n k (suc i)) e ∙ from-zero f z n (suc i) (omega arith))))
+    (λ i u. refl)
 
 -- ---- the answers
 -- a buffer whose front is G, side 1 first, read as sides are
@@ -109,28 +124,31 @@ module _ (f : ℕ → ℕ) (n : ℕ) (d m : List ℕ) (q : m ≡ front (count f 
 pub own-start : (f : ℕ → ℕ) (n : ℕ) (st : ℕ → ℕ) (d m : List ℕ) → m ≡ front zeros n d → m ≡ front (ownerAt f n st 0) n m
 own-start f n st d m q = q ∙ sym (front-over zeros zeros n d) ∙ ap (front zeros n) (sym q)
 
-module _ (f : ℕ → ℕ) (n : ℕ) (st : ℕ → ℕ) (R : ℕ) (m m₀ : List ℕ) (w : Into f n n) (v : Into st R n) (r : ℕ) (h : r < R) (q : m ≡ front (ownerAt f n st r) n m₀) (N : None (alreadyMet f n st) r) where
-  S : (0 < st (suc r)) × (st (suc r) ≤ n)
-  S = v (suc r) (omega arith) h
+module _ (f : ℕ → ℕ) (n : ℕ) (st : ℕ → ℕ) (R : ℕ) (m m₀ : List ℕ) (w : Into f n n) (v : Starts n st R) (r : ℕ) (h : r < R) (q : m ≡ front (ownerAt f n st r) n m₀) (N : None (alreadyMet f n st) r) where
+  no-owner : st (suc r) ≡ 0 → owner f n st r (st (suc r)) ≡ 0
+  no-owner e =
+      lowest-none (λ p. meets f n (st p) (st (suc r))) r
+      (λ p a b.
+      by-cases (decLe 1 (st p))
+      (λ c. ap (meets f n (st p)) e ∙ never-zero f n w n (st p) c (v .within p a (omega arith)))
+      (λ c. let z : n ≡ 0 = v .alone p (suc r) a (omega arith) h (omega arith) e in ap (λ (k : ℕ). meets f k (st p) (st (suc r))) z))
 
-  own-read : getD m (st (suc r) - 1) 0 ≡ owner f n st r (st (suc r))
+  -- the mark at the start is its owner so far
+  own-read : entry m (st (suc r)) ≡ owner f n st r (st (suc r))
   own-read =
-      let s = S in
-      let e : suc (st (suc r) - 1) ≡ st (suc r) = omega arith in
-      ap (λ (z : List ℕ). getD z (st (suc r) - 1) 0) q ∙ front-low (ownerAt f n st r) n m₀ (st (suc r) - 1) (omega arith)
-      ∙ ap (owner f n st r) e
+      by-cases (decLe 1 (st (suc r)))
+      (λ c. entry-front (owner f n st r) n m₀ m q (st (suc r)) c (v .within (suc r) (omega arith) h))
+      (λ c. let e : st (suc r) ≡ 0 = omega arith in ap (entry m) e ∙ sym (no-owner e))
 
-  pub own-taken : (getD m (st (suc r) - 1) 0 ≡ 0 → ⊥) → r + 1 ≡ firstTaken f n st R
+  pub own-taken : (entry m (st (suc r)) ≡ 0 → ⊥) → r + 1 ≡ firstTaken f n st R
   own-taken z = lowest-next (alreadyMet f n st) R r h N (lt-ltb 0 (owner f n st r (st (suc r))) (omega (arith, own-read)))
 
-  pub own-next : getD m (st (suc r) - 1) 0 ≡ 0 → None (alreadyMet f n st) (r + 1)
+  pub own-next : entry m (st (suc r)) ≡ 0 → None (alreadyMet f n st) (r + 1)
   own-next z = none-next (alreadyMet f n st) r N (le-ltb 0 (owner f n st r (st (suc r))) (omega (arith, own-read)))
 
-  pub own-turn : Inj f n → getD m (st (suc r) - 1) 0 ≡ 0 → (k : ℕ) → k ≡ firstReturn f n (st (suc r)) → (e : List ℕ)
-      → e ≡ front (λ (j : ℕ). cond (meets f k (st (suc r)) (suc j)) (r + 1) (getD m j 0)) n m
-      → e ≡ front (ownerAt f n st (r + 1)) n m₀
-  own-turn i z k a e u =
-      let P : ℕ → ℕ = λ j. cond (meets f k (st (suc r)) (suc j)) (r + 1) (getD m j 0) in
+  pub own-turn : Inj f n → f 0 ≡ 0 → entry m (st (suc r)) ≡ 0 → (e : List ℕ) → e ≡ front (painted f m (st (suc r)) (r + 1) n) n m → e ≡ front (ownerAt f n st (r + 1)) n m₀
+  own-turn i o z e u =
+      let P : ℕ → ℕ = painted f m (st (suc r)) (r + 1) n in
       rw add-one
       (u
       ∙ ap (front P n) q
@@ -138,7 +156,7 @@ module _ (f : ℕ → ℕ) (n : ℕ) (st : ℕ → ℕ) (R : ℕ) (m m₀ : List
       ∙ front-ext P (ownerAt f n st (suc r)) n m₀
       (λ j b.
       let y : getD m j 0 ≡ ownerAt f n st r j = ap (λ (t : List ℕ). getD t j 0) q ∙ front-low (ownerAt f n st r) n m₀ j b in
-      rw (a, add-one, y) (paint-row f n w i st r (λ c d g. v c d (omega arith)) (sym own-read ∙ z) (suc j))))
+      rw (add-one, y) (paint-row f n w i o st r (λ c d g. v .within c d (omega arith)) (sym own-read ∙ z) (suc j) (omega arith))))
 
 -- the three answers: d is the buffer at entry, m₀ where the loop begins, m where it is left
 module _ (f : ℕ → ℕ) (n : ℕ) (st : ℕ → ℕ) (R : ℕ) (d m m₀ : List ℕ) (p : m₀ ≡ front zeros n d) where

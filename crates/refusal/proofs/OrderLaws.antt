@@ -8,7 +8,7 @@ use native.Mathlib.Numerals.{add-one}
 use lib.Dec.{eqb, ltb, leb}
 use borrow.Author.Tests.{lt-ltb, le-ltb, eq-eqb, ne-eqb, eqb-true, eqb-false, ltb-true}
 use Rattle.laws.specs.Lowest.{lowest, None}
-use Rattle.laws.proofs.LowestLaws.{none-next, lowest-found, lowest-nothing, lowest-pos, bool-cases}
+use Rattle.laws.proofs.LowestLaws.{none-next, lowest-found, lowest-nothing, lowest-zero, lowest-pos, bool-cases}
 use Rattle.refusal.specs.declared.Refusal.{Refusal}
 use Rattle.refusal.specs.Order.{refusal, fine, first, located, firstOf, refuses, atRow, lowestOf, AllFine, RefusedFirst}
 
@@ -61,6 +61,17 @@ unfolding lowestOf
 all-fine f n i a b h =
     let e : i ≡ n = omega arith in
     rw (lowest-nothing (refuses f) n (rw e at h))
+
+-- no row is refused: then none of them is
+none-refused : (f : ℕ → Refusal) (n k : ℕ) → atRow f k .number ≡ 0 → (0 < k → 0 < f k .number) → k ≡ 0
+none-refused f n zero e h = refl
+none-refused f n (suc k) e h = absurd (omega (arith, h (omega arith)))
+
+pub all-passed : (f : ℕ → Refusal) (n : ℕ) → lowestOf f n .number ≡ 0 → None (refuses f) n
+unfolding lowestOf
+all-passed f n e =
+    lowest-zero (refuses f) n
+    (none-refused f n (lowest (refuses f) n) e (λ a. ltb-true 0 (f (lowest (refuses f) n) .number) (lowest-pos (refuses f) n a .passes)))
 
 -- ---- tests in order, as code has them: a test that refuses is the answer; one that is fine leaves it to the rest
 pub stops : (a q : Refusal) (l : List Refusal) → q ≡ a → (q .number ≡ 0 → ⊥) → q ≡ firstOf (a ∷ l)

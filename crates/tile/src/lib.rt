@@ -1,5 +1,6 @@
 // A tile checked and walked.
 mod columns;
+mod owners;
 mod runs;
 mod sizes;
 mod starts;
