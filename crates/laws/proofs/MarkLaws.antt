@@ -1,23 +1,23 @@
 -- Marks in a buffer, one for each of 1..n: counting predecessors, painting a walk, and owners. One turn of each loop, over a function f on 1..n, and what the loops leave.
 -- Assumes nothing.
 use mathlib.Core.Path.{_≡_, refl, sym, ap, _∙_}
-use mathlib.Core.Logic.{_≢_, by-cases}
-use mathlib.Core.Bool.{Bool, true, false, cond}
+use mathlib.Core.Logic.{by-cases}
+use mathlib.Core.Bool.{Bool, cond}
 use mathlib.Core.List.{List}
-use Prim.Native.Nat.{ℕ, zero, suc, pred, min, _+_, _-_, _≤_, _<_}
+use Prim.Native.Nat.{ℕ, zero, suc, min, _+_, _-_, _≤_, _<_}
 use native.Mathlib.Decide.{decLe}
 use native.Mathlib.Numerals.{add-one}
 use native.Mathlib.Omega.{arith}
 use borrow.Author.Tests.{eq-eqb, ne-eqb, lt-ltb, le-ltb, ltb-false}
 use lib.Dec.{eqb, ltb}
 use lib.ListN.{length, getD, set}
-use Rattle.laws.specs.Lowest.{firstNonzero, lowest, None}
+use Rattle.laws.specs.Lowest.{lowest, None}
 use Rattle.laws.specs.Orbit.{entry, iterate, meets, firstReturn, owner, firstTaken, firstUnmet, firstDoubled}
 use Rattle.laws.specs.Buffer.{front}
 use Rattle.laws.specs.Sums.{Inj, Into, hits}
-use Rattle.laws.specs.Marks.{zeros, kept, count, painted, ownerAt, alreadyMet, Starts}
-use Rattle.laws.proofs.SumLaws.{inj-of, hits-one}
-use Rattle.laws.proofs.LowestLaws.{none-next, lowest-next, lowest-nothing, lowest-none, lowest-ext, lowest-zero}
+use Rattle.laws.specs.Marks.{zeros, count, painted, ownerAt, alreadyMet, Starts}
+use Rattle.laws.proofs.SumLaws.{inj-of}
+use Rattle.laws.proofs.LowestLaws.{none-next, lowest-next, lowest-none, lowest-ext, lowest-zero}
 use Rattle.laws.proofs.BufferLaws.{front-low, front-put, front-of, front-ext, front-over}
 use Rattle.laws.proofs.OrbitLaws.{iterate-in, meets-hit, meets-miss, meets-round, from-zero, never-zero, paint-row}
 
@@ -27,9 +27,6 @@ use Rattle.laws.proofs.OrbitLaws.{iterate-in, meets-hit, meets-miss, me
 pub single : (f : ℕ → ℕ) (n : ℕ) → Into f n n → firstDoubled f n ≡ 0 → Inj f n
 single f n w e = inj-of f n n w (λ s a b. ltb-false 1 _ (lowest-zero (λ (s : ℕ). ltb 1 (hits f n s)) n e .fails s a b))
 
-
-pub tally-start : (f : ℕ → ℕ) (n : ℕ) (d : List ℕ) → n ≤ length d → ((k : ℕ) → k < n → getD d k 0 ≡ 0) → d ≡ front (count f 0) n d
-tally-start f n d h z = front-of (count f 0) n d d h refl z (λ i u. refl)
 
 module _ (f : ℕ → ℕ) (n : ℕ) (d e : List ℕ) (w : Into f n n) (room : n ≤ length d) where
   pub tally-turn : (i t v : ℕ) → i < n → e ≡ front (count f i) n d → t ≡ f (suc i) → v ≡ min 2 (getD e (t - 1) 0 + 1)
@@ -88,42 +85,30 @@ two h =
     by-cases (decLe 2 h) (λ c. eq-eqb (min 2 h) 2 (omega arith) ∙ sym (lt-ltb 1 h c))
     (λ c. ne-eqb (min 2 h) 2 (λ e. omega arith) ∙ sym (le-ltb 1 h (omega arith)))
 
-pub kept-pos : (r : ℕ) (g : ℕ → ℕ) (n : ℕ) (d : List ℕ) → (r ≡ 0 → ⊥) → front zeros n d ≡ kept r g n d
-kept-pos zero g n d z = absurd (z refl)
-kept-pos (suc r) g n d z = refl
+-- the first mark that shows two is the lowest that two lead to
+pub pred-answer : (f : ℕ → ℕ) (n : ℕ) (d m : List ℕ) → m ≡ front (count f n) n d → (r : ℕ) → r ≡ lowest (λ (s : ℕ). eqb (entry m s) 2) n → r ≡ firstDoubled f n
+pred-answer f n d m q r F =
+    F
+    ∙ lowest-ext (λ (s : ℕ). eqb (entry m s) 2) (λ (s : ℕ). ltb 1 (hits f n s)) n
+    (λ s a b.
+    ap (λ (x : ℕ). eqb x 2) (entry-front (λ (s : ℕ). min 2 (hits f n s)) n d m q s a b)
+    ∙ two (hits f n s))
 
-module _ (f : ℕ → ℕ) (n : ℕ) (d m : List ℕ) (q : m ≡ front (count f n) n (front zeros n d)) (r : ℕ) (F : r ≡ lowest (λ (s : ℕ). eqb (entry m s) 2) n) where
-  pub pred-answer : r ≡ firstDoubled f n
-  pred-answer =
-      F
-      ∙ lowest-ext (λ (s : ℕ). eqb (entry m s) 2) (λ (s : ℕ). ltb 1 (hits f n s)) n
-      (λ s a b.
-      ap (λ (x : ℕ). eqb x 2) (entry-front (λ (s : ℕ). min 2 (hits f n s)) n (front zeros n d) m q s a b)
-      ∙ two (hits f n s))
+-- the first mark that shows none is the lowest that no row's walk meets
+pub unmet-answer : (f : ℕ → ℕ) (n : ℕ) (st : ℕ → ℕ) (R : ℕ) (d m : List ℕ) → m ≡ front (ownerAt f n st R) n d → (s : ℕ) → s ≡ lowest (λ (t : ℕ). eqb (entry m t) 0) n → s ≡ firstUnmet f n st R
+unmet-answer f n st R d m q s F =
+    F
+    ∙ lowest-ext (λ (t : ℕ). eqb (entry m t) 0) (λ (t : ℕ). eqb (owner f n st R t) 0) n
+    (λ t a b. ap (λ (x : ℕ). eqb x 0) (entry-front (owner f n st R) n d m q t a b))
 
-  pub pred-none : Into f n n → r ≡ 0 → (r ≡ firstDoubled f n) × (m ≡ kept (firstDoubled f n) (λ (k : ℕ). 1) n d)
-  pred-none w z =
-      let e : firstDoubled f n ≡ 0 = sym pred-answer ∙ z in
-      let z' = lowest-zero (λ (s : ℕ). ltb 1 (hits f n s)) n e in
-      let i = inj-of f n n w (λ s a b. ltb-false 1 _ (z' .fails s a b)) in (
-        pred-answer,
-        rw e
-            (q ∙ front-over (count f n) zeros n d
-            ∙ front-ext (count f n) (λ (k : ℕ). 1) n d (λ k a. ap (min 2) (hits-one f n w i (suc k) (omega arith) a))),
-      )
+-- ---- marks that were cleared before
+pub cleared : (n : ℕ) (d m : List ℕ) → m ≡ front zeros n d → m ≡ front zeros n m
+cleared n d m q = q ∙ sym (front-over zeros zeros n d) ∙ ap (front zeros n) (sym q)
 
-  pub pred-some : (e : List ℕ) → e ≡ front zeros n m → (r ≡ 0 → ⊥) → (r ≡ firstDoubled f n) × (e ≡ kept (firstDoubled f n) (λ (k : ℕ). 1) n d)
-  pred-some e u z = (
-    pred-answer,
-    u ∙ ap (front zeros n) q ∙ front-over zeros (count f n) n (front zeros n d) ∙ front-over zeros zeros n d
-        ∙ kept-pos (firstDoubled f n) (λ (k : ℕ). 1) n d (λ e. z (pred-answer ∙ e)),
-  )
+pub over-front : (g h : ℕ → ℕ) (n : ℕ) (d m₁ m₂ : List ℕ) → m₁ ≡ front h n d → m₂ ≡ front g n m₁ → m₂ ≡ front g n d
+over-front g h n d m₁ m₂ a b = b ∙ ap (front g n) a ∙ front-over g h n d
 
-
-
-pub own-start : (f : ℕ → ℕ) (n : ℕ) (st : ℕ → ℕ) (d m : List ℕ) → m ≡ front zeros n d → m ≡ front (ownerAt f n st 0) n m
-own-start f n st d m q = q ∙ sym (front-over zeros zeros n d) ∙ ap (front zeros n) (sym q)
-
+-- ---- the owners, row by row
 module _ (f : ℕ → ℕ) (n : ℕ) (st : ℕ → ℕ) (R : ℕ) (m m₀ : List ℕ) (w : Into f n n) (v : Starts n st R) (r : ℕ) (h : r < R) (q : m ≡ front (ownerAt f n st r) n m₀) (N : None (alreadyMet f n st) r) where
   no-owner : st (suc r) ≡ 0 → owner f n st r (st (suc r)) ≡ 0
   no-owner e =
@@ -157,31 +142,3 @@ module _ (f : ℕ → ℕ) (n : ℕ) (st : ℕ → ℕ) (R : ℕ) (m m₀ : List
       (λ j b.
       let y : getD m j 0 ≡ ownerAt f n st r j = ap (λ (t : List ℕ). getD t j 0) q ∙ front-low (ownerAt f n st r) n m₀ j b in
       rw (add-one, y) (paint-row f n w i o st r (λ c d g. v .within c d (omega arith)) (sym own-read ∙ z) (suc j) (omega arith))))
-
--- the three answers: d is the buffer at entry, m₀ where the loop begins, m where it is left
-module _ (f : ℕ → ℕ) (n : ℕ) (st : ℕ → ℕ) (R : ℕ) (d m m₀ : List ℕ) (p : m₀ ≡ front zeros n d) where
-  erased : (r : ℕ) (e : List ℕ) → m ≡ front (ownerAt f n st r) n m₀ → e ≡ front zeros n m → e ≡ front zeros n d
-  erased r e q u =
-      u ∙ ap (front zeros n) q ∙ front-over zeros (ownerAt f n st r) n m₀ ∙ ap (front zeros n) p ∙ front-over zeros zeros n d
-
-  -- a row was refused and the marks cleared
-  pub ans-taken : (r o : ℕ) (g : ℕ → ℕ) (e : List ℕ) → m ≡ front (ownerAt f n st r) n m₀ → e ≡ front zeros n m → r + 1 ≡ firstTaken f n st R → e ≡ kept (firstNonzero (firstTaken f n st R) o) g n d
-  ans-taken r o g e q u z = let z' : firstTaken f n st R ≡ suc r = sym z ∙ add-one r in rw z' (erased r e q u)
-
-  module _ (q : m ≡ front (ownerAt f n st R) n m₀) (N : None (alreadyMet f n st) R) (s : ℕ) (F : s ≡ lowest (λ (t : ℕ). eqb (entry m t) 0) n) where
-    pub none : firstTaken f n st R ≡ 0
-    none = lowest-nothing (alreadyMet f n st) R N
-
-    pub orphaned : s ≡ firstUnmet f n st R
-    orphaned =
-        F
-        ∙ lowest-ext (λ (t : ℕ). eqb (entry m t) 0) (λ (t : ℕ). eqb (owner f n st R t) 0) n
-        (λ t a b. ap (λ (x : ℕ). eqb x 0) (entry-front (owner f n st R) n m₀ m q t a b))
-
-    pub ans-all : s ≡ 0 → m ≡ kept (firstNonzero (firstTaken f n st R) (firstUnmet f n st R)) (ownerAt f n st R) n d
-    ans-all z =
-        let o : firstUnmet f n st R ≡ 0 = sym orphaned ∙ z in
-        rw (none, o) (q ∙ ap (front (ownerAt f n st R) n) p ∙ front-over (ownerAt f n st R) zeros n d)
-
-    pub ans-orphan : (e : List ℕ) → e ≡ front zeros n m → (s ≡ 0 → ⊥) → e ≡ kept (firstNonzero (firstTaken f n st R) (firstUnmet f n st R)) (ownerAt f n st R) n d
-    ans-orphan e u z = rw (none, ← orphaned) (erased R e q u ∙ kept-pos s (ownerAt f n st R) n d z)

@@ -12,11 +12,6 @@ use Rattle.laws.specs.Orbit.{meets, owner}
 abbrev pub zeros : ℕ → ℕ
 zeros k = 0
 
--- the first n marks: g where nothing was refused, else zeros
-abbrev pub kept : ℕ → (ℕ → ℕ) → ℕ → List ℕ → List ℕ
-kept zero g n d = front g n d
-kept (suc r) g n d = front (λ k. 0) n d
-
 -- the counts of i sides, up to two, at place k
 abbrev pub count : (ℕ → ℕ) → ℕ → ℕ → ℕ
 count f i k = min 2 (hits f i (suc k))

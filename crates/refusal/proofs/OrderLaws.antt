@@ -80,6 +80,14 @@ stops a q l e n = e ∙ sym (first-refuses a (firstOf l) (λ z. n (ap (λ (r : R
 pub goes-on : (a q r : Refusal) (l : List Refusal) → q ≡ a → q .number ≡ 0 → r ≡ firstOf l → r ≡ firstOf (a ∷ l)
 goes-on a q r l e n h = h ∙ sym (first-passes a (firstOf l) (sym (ap (λ (r : Refusal). r .number) e) ∙ n))
 
+-- two tests in order
+module _ (a b : Refusal) (p : Refusal) (e : p ≡ a) where
+  pub at-first-of-two : (p .number ≡ 0 → ⊥) → p ≡ firstOf (a ∷ b ∷ [])
+  at-first-of-two n = stops a p (b ∷ []) e n
+
+  pub at-second-of-two : p .number ≡ 0 → (q : Refusal) → q ≡ firstOf (b ∷ []) → q ≡ firstOf (a ∷ b ∷ [])
+  at-second-of-two n q f = goes-on a p q (b ∷ []) e n f
+
 -- four tests in order
 module _ (a b c d : Refusal) (p : Refusal) (e : p ≡ a) where
   pub at-first : (p .number ≡ 0 → ⊥) → p ≡ firstOf (a ∷ b ∷ c ∷ d ∷ [])

@@ -1,11 +1,13 @@
 -- The list of tests in parts, each over the columns that it needs: the list of `Check` is these parts joined.
 use mathlib.Core.Bool.{Bool, not, _&&_}
 use mathlib.Core.List.{List, [], _∷_}
-use Prim.Native.Nat.{ℕ}
-use lib.Dec.{eqb}
+use Prim.Native.Nat.{ℕ, zero, suc}
+use lib.Dec.{eqb, ltb}
 use lib.ListN.{length}
 use Rattle.laws.specs.Lowest.{lowest}
-use Rattle.laws.specs.Orbit.{entry, firstTaken, firstUnmet, firstDoubled}
+use Rattle.laws.specs.Buffer.{front}
+use Rattle.laws.specs.Marks.{ownerAt}
+use Rattle.laws.specs.Orbit.{entry, firstTaken, firstUnmet}
 use Rattle.refusal.specs.declared.Refusal.{Refusal}
 use Rattle.refusal.specs.Order.{located, lowestOf}
 use Rattle.side.specs.Edges.{Edges, edgeCount, sideCount}
@@ -35,3 +37,28 @@ ringTests startNode endNode rightFace leftFace ringPtr facId startEdge firstEdge
     ∷ located 28 (lowest (runBroken ringPtr facId) (length ringPtr))
     ∷ located 29 (lowest (λ r. startMissing (length startNode) (length ringPtr) (length facId) rightFace leftFace (entry facId r) (entry startEdge r)) (length facId))
     ∷ []
+
+-- the start side of ring row r
+unfoldable pub startOf : Edges → List ℕ → List ℕ → ℕ → ℕ
+startOf t facId startEdge r = sideWith (edgeCount t) (t .rightFace) (t .leftFace) (entry facId r) (entry startEdge r)
+
+-- ring row r has no start side, in a tile that has edges
+unfoldable pub lacksStart : Edges → List ℕ → List ℕ → ℕ → Bool
+lacksStart t facId startEdge r = eqb (startOf t facId startEdge r) 0 && ltb 0 (edgeCount t)
+
+-- the ring rows that are painted: those before the first that is taken, or all
+abbrev pub rowsPainted : ℕ → ℕ → ℕ
+rowsPainted zero rows = rows
+rowsPainted (suc r) rows = r
+
+-- 30 and 31: the rings' cycles
+unfoldable pub ownerTests : Edges → List ℕ → List ℕ → List Refusal
+ownerTests t facId startEdge =
+    located 30 (firstTaken (after t) (sideCount t) (startOf t facId startEdge) (length facId))
+    ∷ located 31 (firstUnmet (after t) (sideCount t) (startOf t facId startEdge) (length facId))
+    ∷ []
+
+-- the owner marks after the rings are painted, on a refusal too
+unfoldable pub ownersPainted : Edges → List ℕ → List ℕ → List ℕ → List ℕ
+ownersPainted t facId startEdge d =
+    front (ownerAt (after t) (sideCount t) (startOf t facId startEdge) (rowsPainted (firstTaken (after t) (sideCount t) (startOf t facId startEdge) (length facId)) (length facId))) (sideCount t) d

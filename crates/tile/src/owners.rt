@@ -7,15 +7,16 @@ ghost use mathlib.Core.Path.{_≡_};
 ghost use Prim.Native.Nat.{ℕ, suc, min, _+_, _*_, _≤_, _<_};
 ghost use lib.Dec.{eqb};
 ghost use lib.ListN.{length};
-ghost use Rattle.laws.specs.Orbit.{entry, firstDoubled};
+ghost use Rattle.laws.specs.Orbit.{entry, firstDoubled, firstTaken};
 ghost use Rattle.laws.specs.Lowest.{lowest};
 ghost use Rattle.laws.specs.Buffer.{front};
 ghost use Rattle.laws.specs.Marks.{zeros, count, painted};
-ghost use Rattle.refusal.specs.Order.{fine, lowestOf};
+ghost use Rattle.refusal.specs.Order.{fine, lowestOf, firstOf};
 ghost use Rattle.side.specs.Edges.{edges, sideCount};
 ghost use Rattle.side.specs.Successor.{after};
 ghost use Rattle.tile.specs.Columns.{mostRows};
 ghost use Rattle.tile.specs.Check.{edgeSideRefusal};
+ghost use Rattle.tile.specs.Stages.{startOf, lacksStart, ownerTests, ownersPainted};
 
 // The successor of the side s, or 0 where there is none.
 pub(crate) fn side_after(
@@ -151,4 +152,66 @@ fn paint(
             return;
         }
     }
+}
+
+// 30: paints each ring's cycle with its row, and stops at the lowest ring row whose start is painted already; 0 where none is.
+fn own(
+    start_node: &[u32],
+    end_node: &[u32],
+    right_face: &[u32],
+    left_face: &[u32],
+    right_edge: &[u32],
+    left_edge: &[u32],
+    fac_id: &[u32],
+    start_edge: &[u32],
+    marks: &mut [u32],
+) -> usize
+    requires { ⌜ (length (now «start_node») ≤ mostRows) × (length (now «fac_id») ≤ mostRows) ⌝ }
+    requires { ⌜ lowestOf (edgeSideRefusal (edges (now «start_node») (now «end_node») (now «right_face») (now «left_face») (now «right_edge») (now «left_edge»))) (sideCount (edges (now «start_node») (now «end_node») (now «right_face») (now «left_face») (now «right_edge») (now «left_edge»))) ≡ fine ⌝ }
+    requires { ⌜ firstDoubled (after (edges (now «start_node») (now «end_node») (now «right_face») (now «left_face») (now «right_edge») (now «left_edge»))) (2 * length (now «start_node»)) ≡ 0 ⌝ }
+    requires { ⌜ 2 * length (now «start_node») ≤ length (now marks) ⌝ }
+    requires { ⌜ lowest (lacksStart (edges (now «start_node») (now «end_node») (now «right_face») (now «left_face») (now «right_edge») (now «left_edge»)) (now «fac_id») (now «start_edge»)) (length (now «fac_id»)) ≡ 0 ⌝ }
+    ensures { λ r. ⌜ r ≡ firstTaken (after (edges (now («start_node» .entry)) (now («end_node» .entry)) (now («right_face» .entry)) (now («left_face» .entry)) (now («right_edge» .entry)) (now («left_edge» .entry)))) (2 * length (now («start_node» .entry))) (startOf (edges (now («start_node» .entry)) (now («end_node» .entry)) (now («right_face» .entry)) (now («left_face» .entry)) (now («right_edge» .entry)) (now («left_edge» .entry))) (now («fac_id» .entry)) (now («start_edge» .entry))) (length (now («fac_id» .entry))) ⌝ }
+    ensures { λ r. ⌜ now (marks .exit) ≡ ownersPainted (edges (now («start_node» .entry)) (now («end_node» .entry)) (now («right_face» .entry)) (now («left_face» .entry)) (now («right_edge» .entry)) (now («left_edge» .entry))) (now («fac_id» .entry)) (now («start_edge» .entry)) (now (marks .entry)) ⌝ }
+{
+    let edges = start_node.len();
+    clear(marks, 2 * edges);
+    let mut r: usize = 0;
+    while r < fac_id.len() {
+        let e = side::row(start_edge, r + 1);
+        let start = starts::side_with(edges, right_face, left_face, fac_id[r], e);
+        if side::row(marks, start) != 0 {
+            return r + 1;
+        }
+        r += 1;
+        paint(start_node, end_node, right_face, left_face, right_edge, left_edge, start, r as u32, marks);
+    }
+    0
+}
+
+// 30 and 31, in order: no cycle named by two rings, and every side on a ring's cycle.
+pub(crate) fn judge_owners(
+    start_node: &[u32],
+    end_node: &[u32],
+    right_face: &[u32],
+    left_face: &[u32],
+    right_edge: &[u32],
+    left_edge: &[u32],
+    fac_id: &[u32],
+    start_edge: &[u32],
+    marks: &mut [u32],
+) -> Refusal
+    requires { ⌜ (length (now «start_node») ≤ mostRows) × (length (now «fac_id») ≤ mostRows) ⌝ }
+    requires { ⌜ lowestOf (edgeSideRefusal (edges (now «start_node») (now «end_node») (now «right_face») (now «left_face») (now «right_edge») (now «left_edge»))) (sideCount (edges (now «start_node») (now «end_node») (now «right_face») (now «left_face») (now «right_edge») (now «left_edge»))) ≡ fine ⌝ }
+    requires { ⌜ firstDoubled (after (edges (now «start_node») (now «end_node») (now «right_face») (now «left_face») (now «right_edge») (now «left_edge»))) (2 * length (now «start_node»)) ≡ 0 ⌝ }
+    requires { ⌜ 2 * length (now «start_node») ≤ length (now marks) ⌝ }
+    requires { ⌜ lowest (lacksStart (edges (now «start_node») (now «end_node») (now «right_face») (now «left_face») (now «right_edge») (now «left_edge»)) (now «fac_id») (now «start_edge»)) (length (now «fac_id»)) ≡ 0 ⌝ }
+    ensures { λ r. ⌜ r ≡ firstOf (ownerTests (edges (now («start_node» .entry)) (now («end_node» .entry)) (now («right_face» .entry)) (now («left_face» .entry)) (now («right_edge» .entry)) (now («left_edge» .entry))) (now («fac_id» .entry)) (now («start_edge» .entry))) ⌝ }
+    ensures { λ r. ⌜ now (marks .exit) ≡ ownersPainted (edges (now («start_node» .entry)) (now («end_node» .entry)) (now («right_face» .entry)) (now («left_face» .entry)) (now («right_edge» .entry)) (now («left_edge» .entry))) (now («fac_id» .entry)) (now («start_edge» .entry)) (now (marks .entry)) ⌝ }
+{
+    let a = refusal::refuse_at(30, own(start_node, end_node, right_face, left_face, right_edge, left_edge, fac_id, start_edge, marks));
+    if a.number != 0 {
+        return a;
+    }
+    refusal::refuse_at(31, find(marks, 2 * start_node.len(), 0))
 }

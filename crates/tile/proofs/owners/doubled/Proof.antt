@@ -1,15 +1,16 @@
+use mathlib.Core.Path.{_≡_, ap, _∙_}
+use Rattle.laws.specs.Marks.{zeros, count}
 -- `tile::owners::doubled` meets its contract: the marks are cleared and counted, and the first that shows two is the lowest side with two predecessors.
 -- Assumes nothing.
 use Prim.Native.Nat.{_*_}
 use lib.ListN.{length}
 use mathlib.Core.Path.{ap, _∙_}
 use native.Mathlib.Omega.{arith}
-use Rattle.laws.proofs.MarkLaws.{pred-answer}
+use Rattle.laws.proofs.MarkLaws.{pred-answer, cleared, over-front}
 use Rattle.laws.specs.Buffer.{front}
 use Rattle.laws.specs.Marks.{count}
 use Rattle.side.specs.Successor.{after}
 use Rattle.side.specs.Edges.{edges, sideCount}
-use Rattle.tile.proofs.OwnerLaws.{cleared, counted-over}
 use borrow.Author.Needs.{needs}
 use Rattle.tile.proofs.owners.doubled.Statement.{statement}
 use Rattle.tile.proofs.owners.doubled.Tie as tie
@@ -37,8 +38,8 @@ returns c =
     let n = sideCount t in
     let m₁ = (c .before .before .before .before .before .before .before .before .clear) .last .0 in
     let m₂ = (c .before .before .before .before .tally) .last .1 .1 .1 .1 .1 .1 .0 in (
-      pred-answer f n (a .marks .now) m₂ ((c .before .before .before .before .tally) .ensures ∙ ap (front (count f n) n) ((c .before .before .before .before .before .before .before .before .clear) .ensures)) ((c .find) .result) ((c .find) .ensures),
-      counted-over f n (a .marks .now) m₁ m₂ ((c .before .before .before .before .before .before .before .before .clear) .ensures) ((c .before .before .before .before .tally) .ensures),
+      pred-answer f n m₁ m₂ ((c .before .before .before .before .tally) .ensures) ((c .find) .result) ((c .find) .ensures),
+      over-front (count f n) zeros n (a .marks .now) m₁ m₂ ((c .before .before .before .before .before .before .before .before .clear) .ensures) ((c .before .before .before .before .tally) .ensures),
     )
 
 pub doubled-spec : {M : Type 1} → statement M
