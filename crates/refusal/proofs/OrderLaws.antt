@@ -73,6 +73,41 @@ all-passed f n e =
     lowest-zero (refuses f) n
     (none-refused f n (lowest (refuses f) n) e (λ a. ltb-true 0 (f (lowest (refuses f) n) .number) (lowest-pos (refuses f) n a .passes)))
 
+pub lowest-fine : (f : ℕ → Refusal) (n : ℕ) → lowestOf f n .number ≡ 0 → lowestOf f n ≡ fine
+unfolding lowestOf
+lowest-fine f n e =
+    ap (atRow f)
+    (none-refused f n (lowest (refuses f) n) e (λ a. ltb-true 0 (f (lowest (refuses f) n) .number) (lowest-pos (refuses f) n a .passes)))
+
+-- ---- the numbers of a list of tests: each refuses with m or a higher number
+abbrev pub Numbered : ℕ → Refusal → Type 0
+Numbered m r = (r .number ≡ 0 → ⊥) → m ≤ r .number
+
+abbrev pub AllNumbered : ℕ → List Refusal → Type 0
+AllNumbered m [] = Unit {0}
+AllNumbered m (a ∷ l) = Numbered m a × AllNumbered m l
+
+pub first-numbered : (m : ℕ) (l : List Refusal) → AllNumbered m l → Numbered m (firstOf l)
+first-numbered m [] h = λ z. absurd (z refl)
+first-numbered m (a ∷ l) h =
+    bool-cases (eqb (a .number) 0)
+    (λ t. rw (first-passes a (firstOf l) (eqb-true (a .number) 0 t)) (first-numbered m l (h .1)))
+    (λ t. rw (first-refuses a (firstOf l) (eqb-false (a .number) 0 t)) (h .0))
+
+pub located-numbered : (m n p : ℕ) → m ≤ n → Numbered m (located n p)
+located-numbered m n p h =
+    bool-cases (eqb p 0)
+    (λ t. rw (located-zero n p (eqb-true p 0 t)) (λ z. absurd (z refl)))
+    (λ t. rw (located-at n p (eqb-false p 0 t)) (λ z. h))
+
+row-numbered : (m : ℕ) (f : ℕ → Refusal) (k : ℕ) → ((i : ℕ) → Numbered m (f i)) → Numbered m (atRow f k)
+row-numbered m f zero h z = absurd (z refl)
+row-numbered m f (suc k) h z = h (suc k) z
+
+pub lowest-numbered : (m : ℕ) (f : ℕ → Refusal) (n : ℕ) → ((i : ℕ) → Numbered m (f i)) → Numbered m (lowestOf f n)
+unfolding lowestOf
+lowest-numbered m f n h = row-numbered m f (lowest (refuses f) n) h
+
 -- ---- tests in order, as code has them: a test that refuses is the answer; one that is fine leaves it to the rest
 pub stops : (a q : Refusal) (l : List Refusal) → q ≡ a → (q .number ≡ 0 → ⊥) → q ≡ firstOf (a ∷ l)
 stops a q l e n = e ∙ sym (first-refuses a (firstOf l) (λ z. n (ap (λ (r : Refusal). r .number) e ∙ z)))

@@ -1,2 +1,3 @@
 pub mod RunLaws
 pub mod OwnerLaws
+pub mod JudgeLaws

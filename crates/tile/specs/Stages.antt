@@ -1,18 +1,18 @@
 -- The list of tests in parts, each over the columns that it needs: the list of `Check` is these parts joined.
-use mathlib.Core.Bool.{Bool, not, _&&_}
-use mathlib.Core.List.{List, [], _∷_}
+use mathlib.Core.Bool.{Bool, cond, not, _&&_}
+use mathlib.Core.List.{List, [], _∷_, _++_}
 use Prim.Native.Nat.{ℕ, zero, suc}
 use lib.Dec.{eqb, ltb}
 use lib.ListN.{length}
 use Rattle.laws.specs.Lowest.{lowest}
 use Rattle.laws.specs.Buffer.{front}
-use Rattle.laws.specs.Marks.{ownerAt}
-use Rattle.laws.specs.Orbit.{entry, firstTaken, firstUnmet}
+use Rattle.laws.specs.Marks.{zeros, ownerAt}
+use Rattle.laws.specs.Orbit.{entry, firstTaken, firstUnmet, firstDoubled}
 use Rattle.refusal.specs.declared.Refusal.{Refusal}
 use Rattle.refusal.specs.Order.{located, lowestOf}
 use Rattle.side.specs.Edges.{Edges, edgeCount, sideCount}
 use Rattle.side.specs.Successor.{after}
-use Rattle.tile.specs.Columns.{sideWith, emptyAllowed}
+use Rattle.tile.specs.Columns.{Tile, F, R, N, sides, sideWith, startSide, emptyAllowed}
 use Rattle.tile.specs.Check.{rowOutside, edgeSideRefusal, edgeAway, entryOutside, runBroken}
 
 -- 20 to 25: the rows and the sides of the edge table, in a tile with so many faces and nodes
@@ -62,3 +62,20 @@ ownerTests t facId startEdge =
 unfoldable pub ownersPainted : Edges → List ℕ → List ℕ → List ℕ → List ℕ
 ownersPainted t facId startEdge d =
     front (ownerAt (after t) (sideCount t) (startOf t facId startEdge) (rowsPainted (firstTaken (after t) (sideCount t) (startOf t facId startEdge) (length facId)) (length facId))) (sideCount t) d
+
+-- 20 to 31: what is tested once the sizes and the owner space are right
+abbrev pub ringsOf : Tile → List Refusal
+ringsOf t = ringTests (t .edg .startNode) (t .edg .endNode) (t .edg .rightFace) (t .edg .leftFace) (t .ringPtr) (t .facId) (t .startEdge) (t .firstEdge)
+
+abbrev pub ownersOf : Tile → List Refusal
+ownersOf t = ownerTests (t .edg) (t .facId) (t .startEdge)
+
+abbrev pub afterEdges : Tile → List Refusal
+afterEdges t = located 26 (firstDoubled (after (t .edg)) (sides t)) ∷ (ringsOf t ++ ownersOf t)
+
+unfoldable pub laterTests : Tile → List Refusal
+laterTests t = edgeTests (t .edg) (F t) (N t) ++ afterEdges t
+
+-- the marks after these tests: the owners, or zeros where one refuses
+unfoldable pub marksJudged : Tile → Refusal → List ℕ → List ℕ
+marksJudged t q d = cond (eqb (q .number) 0) (front (ownerAt (after (t .edg)) (sides t) (startSide t) (R t)) (sides t) d) (front zeros (sides t) d)
