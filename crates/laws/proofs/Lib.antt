@@ -10,3 +10,5 @@ pub mod SeparatorLaws
 pub mod LentLaws
 pub mod ForemostLaws
 pub mod PlaceLaws
+pub mod EntryLaws
+pub mod LeastLaws
