@@ -1,3 +1,4 @@
 pub mod RunLaws
 pub mod OwnerLaws
 pub mod JudgeLaws
+pub mod WalkLaws
