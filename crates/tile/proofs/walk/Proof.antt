@@ -51,18 +51,22 @@ refuse-requires-3 c κs = search needs
 
 returns-3 : tie.Need-returns-3
 returns-3 c =
-    let a = (c .before .before .before .before .before .before .before .before .before .before .before .before .before .before .before .before .before .before .before .before .args) in
-    (walk-no-start (whole (c .before .before .before .before .before .before .before .before .before .before .before .before .before .before .before .before .before .before .before .before)) (a .row) (length (a .out .now)) (sym ((c .before .before .before .before .before .before .before .before .sizes-wrong) .ensures) ∙ (c .before .before .before .before .before .before .before .if1) .left) (sym ((c .before .before .before .before .before .before .is-outside) .ensures) ∙ (c .before .before .before .before .before .if2) .left)
-    ((c .before .before .before .before .row) .result) ((c .before .before .before .row2) .result) ((c .before .before .before .before .row) .ensures) ((c .before .before .before .row2) .ensures) ((c .refuse3) .result) (sym ((c .before .before .has-no-start) .ensures) ∙ (c .before .if3) .taken) ((c .refuse3) .ensures), refl)
+    let a = (c .before .before .before .before .before .before .before .before .before .before .before .before .before .before .before .before .before .before .before .before .args) in (
+      walk-no-start (whole (c .before .before .before .before .before .before .before .before .before .before .before .before .before .before .before .before .before .before .before .before)) (a .row) (length (a .out .now)) (sym ((c .before .before .before .before .before .before .before .before .sizes-wrong) .ensures) ∙ (c .before .before .before .before .before .before .before .if1) .left) (sym ((c .before .before .before .before .before .before .is-outside) .ensures) ∙ (c .before .before .before .before .before .if2) .left)
+          ((c .before .before .before .before .row) .result) ((c .before .before .before .row2) .result) ((c .before .before .before .before .row) .ensures) ((c .before .before .before .row2) .ensures) ((c .refuse3) .result) (sym ((c .before .before .has-no-start) .ensures) ∙ (c .before .if3) .taken) ((c .refuse3) .ensures),
+      refl,
+    )
 
 side-with-requires : tie.Need-side-with-requires
 side-with-requires c κs = search needs
 
 returns-4 : tie.Need-returns-4
 returns-4 c =
-    let a = (c .before .before .before .before .before .before .before .before .before .before .before .before .before .before .before .before .before .before .before .before .before .args) in
-    (walk-empty (whole (c .before .before .before .before .before .before .before .before .before .before .before .before .before .before .before .before .before .before .before .before .before)) (a .row) (length (a .out .now)) (sym ((c .before .before .before .before .before .before .before .before .before .sizes-wrong) .ensures) ∙ (c .before .before .before .before .before .before .before .before .if1) .left) (sym ((c .before .before .before .before .before .before .before .is-outside) .ensures) ∙ (c .before .before .before .before .before .before .if2) .left)
-    ((c .before .before .before .before .before .row) .result) ((c .before .before .before .before .row2) .result) ((c .before .before .before .before .before .row) .ensures) ((c .before .before .before .before .row2) .ensures) (sym ((c .before .before .before .has-no-start) .ensures) ∙ (c .before .before .if3) .left) ((c .before .side-with) .result) ((c .before .side-with) .ensures) ((c .if4) .taken), refl)
+    let a = (c .before .before .before .before .before .before .before .before .before .before .before .before .before .before .before .before .before .before .before .before .before .args) in (
+      walk-empty (whole (c .before .before .before .before .before .before .before .before .before .before .before .before .before .before .before .before .before .before .before .before .before)) (a .row) (length (a .out .now)) (sym ((c .before .before .before .before .before .before .before .before .before .sizes-wrong) .ensures) ∙ (c .before .before .before .before .before .before .before .before .if1) .left) (sym ((c .before .before .before .before .before .before .before .is-outside) .ensures) ∙ (c .before .before .before .before .before .before .if2) .left)
+          ((c .before .before .before .before .before .row) .result) ((c .before .before .before .before .row2) .result) ((c .before .before .before .before .before .row) .ensures) ((c .before .before .before .before .row2) .ensures) (sym ((c .before .before .before .has-no-start) .ensures) ∙ (c .before .before .if3) .left) ((c .before .side-with) .result) ((c .before .side-with) .ensures) ((c .if4) .taken),
+      refl,
+    )
 
 walk-from-requires : tie.Need-walk-from-requires
 walk-from-requires c κs =
