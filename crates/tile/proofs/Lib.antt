@@ -9,3 +9,4 @@ pub mod Examples
 pub mod RunLaws
 pub mod OwnerLaws
 pub mod JudgeLaws
+pub mod WalkLaws

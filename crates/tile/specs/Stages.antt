@@ -7,11 +7,13 @@ use lib.ListN.{length}
 use Rattle.laws.specs.Lowest.{lowest}
 use Rattle.laws.specs.Buffer.{front}
 use Rattle.laws.specs.Marks.{zeros, ownerAt}
-use Rattle.laws.specs.Orbit.{entry, firstTaken, firstUnmet, firstDoubled}
+use Rattle.laws.specs.Orbit.{entry, iterate, firstTaken, firstUnmet, firstDoubled}
 use Rattle.refusal.specs.declared.Refusal.{Refusal}
 use Rattle.refusal.specs.Order.{located, lowestOf}
 use Rattle.side.specs.Edges.{Edges, edgeCount, sideCount}
 use Rattle.side.specs.Successor.{after}
+use Rattle.tile.specs.declared.Walked.{Walked}
+use Rattle.tile.specs.declared.Walked.the-variants.{Steps, Refused}
 use Rattle.tile.specs.Columns.{Tile, F, R, N, sides, sideWith, startSide, emptyAllowed}
 use Rattle.tile.specs.Check.{rowOutside, edgeSideRefusal, edgeAway, entryOutside, runBroken}
 
@@ -79,3 +81,8 @@ laterTests t = edgeTests (t .edg) (F t) (N t) ++ afterEdges t
 -- the marks after these tests: the owners, or zeros where one refuses
 unfoldable pub marksJudged : Tile → Refusal → List ℕ → List ℕ
 marksJudged t q d = cond (eqb (q .number) 0) (front (ownerAt (after (t .edg)) (sides t) (startSide t) (R t)) (sides t) d) (front zeros (sides t) d)
+
+-- the output after a walk from the side a: the sides of the steps, and nothing on a refusal
+abbrev pub pathWritten : Edges → ℕ → Walked → List ℕ → List ℕ
+pathWritten t a (Steps k) d = front (λ i. iterate (after t) i a) k d
+pathWritten t a (Refused q) d = d
