@@ -8,3 +8,5 @@ pub mod MachineLaws
 pub mod LanguageLaws
 pub mod SeparatorLaws
 pub mod LentLaws
+pub mod EntryLaws
+pub mod LeastLaws
