@@ -21,12 +21,8 @@ use Rattle.laws.proofs.LowestLaws.{none-next, lowest-next, lowest-none,
 use Rattle.laws.proofs.BufferLaws.{front-low, front-put, front-of, front-ext, front-over}
 use Rattle.laws.proofs.OrbitLaws.{iterate-in, meets-hit, meets-miss, meets-round, from-zero, never-zero, paint-row}
 
-
-
-
 pub single : (f : ℕ → ℕ) (n : ℕ) → Into f n n → firstDoubled f n ≡ 0 → Inj f n
 single f n w e = inj-of f n n w (λ s a b. ltb-false 1 _ (lowest-zero (λ (s : ℕ). ltb 1 (hits f n s)) n e .fails s a b))
-
 
 module _ (f : ℕ → ℕ) (n : ℕ) (d e : List ℕ) (w : Into f n n) (room : n ≤ length d) where
   pub tally-turn : (i t v : ℕ) → i < n → e ≡ front (count f i) n d → t ≡ f (suc i) → v ≡ min 2 (getD e (t - 1) 0 + 1)
@@ -41,7 +37,6 @@ module _ (f : ℕ → ℕ) (n : ℕ) (d e : List ℕ) (w : Into f n n) (room : n
       (front-put (count f i) (count f (suc i)) n d e (t - 1) v room q (omega arith)
       (rw (eq-eqb (suc (t - 1)) (f (suc i)) (s ∙ r)) (omega arith))
       (λ k a c. rw (ne-eqb (suc k) (f (suc i)) (λ m. c (omega arith))) (omega arith)))
-
 
 pub paint-start : (f : ℕ → ℕ) (n : ℕ) (d : List ℕ) (a row : ℕ) → n ≤ length d → d ≡ front (painted f d a row 0) n d
 paint-start f n d a row h = front-of (painted f d a row 0) n d d h refl (λ i u. refl) (λ i u. refl)

@@ -139,19 +139,40 @@ side-numbered s n (Wrong w) h z = omega (arith, h .0)
 later-numbered : (t : Tile) → Numbered 20 (firstOf (laterTests t))
 unfolding laterTests edgeTests ringTests ownerTests
 later-numbered t =
-    first-numbered 20 (laterTests t)
-    (located-numbered 20 20 _ (omega arith),
-    (located-numbered 20 21 _ (omega arith),
-    (located-numbered 20 22 _ (omega arith),
-    (lowest-numbered 20 (edgeSideRefusal (t .edg)) (sides t) (λ s. side-numbered s (sides t) (successor (t .edg) s) (successor-sound (t .edg) s)),
-    (located-numbered 20 26 _ (omega arith),
-    (located-numbered 20 27 _ (omega arith),
-    (located-numbered 20 28 _ (omega arith),
-    (located-numbered 20 28 _ (omega arith),
-    (located-numbered 20 29 _ (omega arith),
-    (located-numbered 20 30 _ (omega arith),
-    (located-numbered 20 31 _ (omega arith),
-    tt)))))))))))
+    first-numbered 20 (laterTests t) (
+      located-numbered 20 20 _ (omega arith),
+      (
+        located-numbered 20 21 _ (omega arith),
+        (
+          located-numbered 20 22 _ (omega arith),
+          (
+            lowest-numbered 20 (edgeSideRefusal (t .edg)) (sides t) (λ s. side-numbered s (sides t) (successor (t .edg) s) (successor-sound (t .edg) s)),
+            (
+              located-numbered 20 26 _ (omega arith),
+              (
+                located-numbered 20 27 _ (omega arith),
+                (
+                  located-numbered 20 28 _ (omega arith),
+                  (
+                    located-numbered 20 28 _ (omega arith),
+                    (
+                      located-numbered 20 29 _ (omega arith),
+                      (
+                        located-numbered 20 30 _ (omega arith),
+                        (
+                          located-numbered 20 31 _ (omega arith),
+                          tt,
+                        ),
+                      ),
+                    ),
+                  ),
+                ),
+              ),
+            ),
+          ),
+        ),
+      ),
+    )
 
 module _ (t : Tile) (d : List ℕ) where
   pub wrong-sizes : (q : Refusal) → q ≡ refusal 15 0 → sizesWrong t ≡ true → (Refused q ≡ verdictOf t (length d)) × (d ≡ marksAfter t d)

@@ -77,7 +77,7 @@ module _ (t : Edges) (fi se : List ℕ) where
   pub starts-known : lowest (lacksStart t fi se) (length fi) ≡ 0 → Starts (sideCount t) (startOf t fi se) (length fi)
   starts-known e = record {
     within = λ r a b. start-within r;
-    alone = λ q r a b c y z. edgeless q (lowest-zero (lacksStart t fi se) (length fi) e .fails q a (omega arith)) y
+    alone = λ q r a b c y z. edgeless q (lowest-zero (lacksStart t fi se) (length fi) e .fails q a (omega arith)) y;
   }
 
 -- what the painting is handed, read once

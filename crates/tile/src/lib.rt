@@ -7,7 +7,6 @@ mod sizes;
 mod starts;
 
 use refusal::Refusal;
-
 ghost use mathlib.Core.Path.{_≡_};
 ghost use mathlib.Core.Bool.{false};
 ghost use Prim.Native.Nat.{_*_, _≤_};
@@ -55,22 +54,61 @@ fn judge(
     ensures { λ r. ⌜ now (marks .exit) ≡ marksJudged (tile (edges (now («start_node» .entry)) (now («end_node» .entry)) (now («right_face» .entry)) (now («left_face» .entry)) (now («right_edge» .entry)) (now («left_edge» .entry))) (now («ring_ptr» .entry)) (now («fac_id» .entry)) (now («start_edge» .entry)) (now («first_edge» .entry))) r (now (marks .entry)) ⌝ }
 {
     let n = 2 * start_node.len();
-    let a = columns::judge_edges(start_node, end_node, right_face, left_face, right_edge, left_edge, ring_ptr.len(), first_edge.len());
+    let a = columns::judge_edges(
+        start_node,
+        end_node,
+        right_face,
+        left_face,
+        right_edge,
+        left_edge,
+        ring_ptr.len(),
+        first_edge.len(),
+    );
     if a.number != 0 {
         owners::clear(marks, n);
         return a;
     }
-    let b = refusal::refuse_at(26, owners::doubled(start_node, end_node, right_face, left_face, right_edge, left_edge, marks));
+    let b = refusal::refuse_at(
+        26,
+        owners::doubled(
+            start_node,
+            end_node,
+            right_face,
+            left_face,
+            right_edge,
+            left_edge,
+            marks,
+        ),
+    );
     if b.number != 0 {
         owners::clear(marks, n);
         return b;
     }
-    let c = starts::judge_rings(start_node, end_node, right_face, left_face, ring_ptr, fac_id, start_edge, first_edge);
+    let c = starts::judge_rings(
+        start_node,
+        end_node,
+        right_face,
+        left_face,
+        ring_ptr,
+        fac_id,
+        start_edge,
+        first_edge,
+    );
     if c.number != 0 {
         owners::clear(marks, n);
         return c;
     }
-    let d = owners::judge_owners(start_node, end_node, right_face, left_face, right_edge, left_edge, fac_id, start_edge, marks);
+    let d = owners::judge_owners(
+        start_node,
+        end_node,
+        right_face,
+        left_face,
+        right_edge,
+        left_edge,
+        fac_id,
+        start_edge,
+        marks,
+    );
     if d.number != 0 {
         owners::clear(marks, n);
         return d;
@@ -95,14 +133,37 @@ pub fn check(
     ensures { λ r. ⌜ r ≡ verdictOf (tile (edges (now («start_node» .entry)) (now («end_node» .entry)) (now («right_face» .entry)) (now («left_face» .entry)) (now («right_edge» .entry)) (now («left_edge» .entry))) (now («ring_ptr» .entry)) (now («fac_id» .entry)) (now («start_edge» .entry)) (now («first_edge» .entry))) (length (now (marks .entry))) ⌝ }
     ensures { λ r. ⌜ now (marks .exit) ≡ marksAfter (tile (edges (now («start_node» .entry)) (now («end_node» .entry)) (now («right_face» .entry)) (now («left_face» .entry)) (now («right_edge» .entry)) (now («left_edge» .entry))) (now («ring_ptr» .entry)) (now («fac_id» .entry)) (now («start_edge» .entry)) (now («first_edge» .entry))) (now (marks .entry)) ⌝ }
 {
-    if sizes::sizes_wrong(start_node, end_node, right_face, left_face, right_edge, left_edge, ring_ptr, fac_id, start_edge, first_edge) {
+    if sizes::sizes_wrong(
+        start_node,
+        end_node,
+        right_face,
+        left_face,
+        right_edge,
+        left_edge,
+        ring_ptr,
+        fac_id,
+        start_edge,
+        first_edge,
+    ) {
         return Verdict::Refused(refusal::refuse(15, 0));
     }
     let n = 2 * start_node.len();
     if marks.len() < n {
         return Verdict::Refused(refusal::refuse(14, n));
     }
-    let q = judge(start_node, end_node, right_face, left_face, right_edge, left_edge, ring_ptr, fac_id, start_edge, first_edge, marks);
+    let q = judge(
+        start_node,
+        end_node,
+        right_face,
+        left_face,
+        right_edge,
+        left_edge,
+        ring_ptr,
+        fac_id,
+        start_edge,
+        first_edge,
+        marks,
+    );
     if q.number != 0 {
         return Verdict::Refused(q);
     }
@@ -127,7 +188,18 @@ pub fn walk(
     ensures { λ r. ⌜ r ≡ walkOf (tile (edges (now («start_node» .entry)) (now («end_node» .entry)) (now («right_face» .entry)) (now («left_face» .entry)) (now («right_edge» .entry)) (now («left_edge» .entry))) (now («ring_ptr» .entry)) (now («fac_id» .entry)) (now («start_edge» .entry)) (now («first_edge» .entry))) row (length (now (out .entry))) ⌝ }
     ensures { λ r. ⌜ now (out .exit) ≡ sidesWritten (tile (edges (now («start_node» .entry)) (now («end_node» .entry)) (now («right_face» .entry)) (now («left_face» .entry)) (now («right_edge» .entry)) (now («left_edge» .entry))) (now («ring_ptr» .entry)) (now («fac_id» .entry)) (now («start_edge» .entry)) (now («first_edge» .entry))) row r (now (out .entry)) ⌝ }
 {
-    if sizes::sizes_wrong(start_node, end_node, right_face, left_face, right_edge, left_edge, ring_ptr, fac_id, start_edge, first_edge) {
+    if sizes::sizes_wrong(
+        start_node,
+        end_node,
+        right_face,
+        left_face,
+        right_edge,
+        left_edge,
+        ring_ptr,
+        fac_id,
+        start_edge,
+        first_edge,
+    ) {
         return Walked::Refused(refusal::refuse(15, 0));
     }
     let edges = start_node.len();
@@ -144,5 +216,15 @@ pub fn walk(
     if start == 0 {
         return Walked::Steps(0);
     }
-    paths::walk_from(start_node, end_node, right_face, left_face, right_edge, left_edge, start, row, out)
+    paths::walk_from(
+        start_node,
+        end_node,
+        right_face,
+        left_face,
+        right_edge,
+        left_edge,
+        start,
+        row,
+        out,
+    )
 }

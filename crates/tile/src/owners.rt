@@ -2,7 +2,6 @@
 use crate::starts;
 use refusal::Refusal;
 use side::Successor;
-
 ghost use mathlib.Core.Path.{_≡_};
 ghost use Prim.Native.Nat.{ℕ, suc, min, _+_, _*_, _≤_, _<_};
 ghost use lib.Dec.{eqb};
@@ -30,7 +29,15 @@ pub(crate) fn side_after(
 ) -> usize
     ensures { λ r. ⌜ r ≡ after (edges (now («start_node» .entry)) (now («end_node» .entry)) (now («right_face» .entry)) (now («left_face» .entry)) (now («right_edge» .entry)) (now («left_edge» .entry))) s ⌝ }
 {
-    match side::next_side(start_node, end_node, right_face, left_face, right_edge, left_edge, s) {
+    match side::next_side(
+        start_node,
+        end_node,
+        right_face,
+        left_face,
+        right_edge,
+        left_edge,
+        s,
+    ) {
         Successor::Side(u) => u,
         Successor::Wrong(_) => 0,
     }
@@ -89,7 +96,15 @@ fn tally(
     let n = 2 * start_node.len();
     let mut i: usize = 0;
     while i < n {
-        let u = side_after(start_node, end_node, right_face, left_face, right_edge, left_edge, i + 1);
+        let u = side_after(
+            start_node,
+            end_node,
+            right_face,
+            left_face,
+            right_edge,
+            left_edge,
+            i + 1,
+        );
         let j = u - 1;
         marks[j] = one_more(marks[j]);
         i += 1;
@@ -114,7 +129,15 @@ pub(crate) fn doubled(
 {
     let n = 2 * start_node.len();
     clear(marks, n);
-    tally(start_node, end_node, right_face, left_face, right_edge, left_edge, marks);
+    tally(
+        start_node,
+        end_node,
+        right_face,
+        left_face,
+        right_edge,
+        left_edge,
+        marks,
+    );
     find(marks, n, 2)
 }
 
@@ -144,7 +167,15 @@ fn paint(
     let mut s = start;
     let mut k: usize = 0;
     while k < n {
-        s = side_after(start_node, end_node, right_face, left_face, right_edge, left_edge, s);
+        s = side_after(
+            start_node,
+            end_node,
+            right_face,
+            left_face,
+            right_edge,
+            left_edge,
+            s,
+        );
         let j = s - 1;
         marks[j] = row;
         k += 1;
@@ -184,7 +215,17 @@ fn own(
             return r + 1;
         }
         r += 1;
-        paint(start_node, end_node, right_face, left_face, right_edge, left_edge, start, r as u32, marks);
+        paint(
+            start_node,
+            end_node,
+            right_face,
+            left_face,
+            right_edge,
+            left_edge,
+            start,
+            r as u32,
+            marks,
+        );
     }
     0
 }
@@ -209,7 +250,20 @@ pub(crate) fn judge_owners(
     ensures { λ r. ⌜ r ≡ firstOf (ownerTests (edges (now («start_node» .entry)) (now («end_node» .entry)) (now («right_face» .entry)) (now («left_face» .entry)) (now («right_edge» .entry)) (now («left_edge» .entry))) (now («fac_id» .entry)) (now («start_edge» .entry))) ⌝ }
     ensures { λ r. ⌜ now (marks .exit) ≡ ownersPainted (edges (now («start_node» .entry)) (now («end_node» .entry)) (now («right_face» .entry)) (now («left_face» .entry)) (now («right_edge» .entry)) (now («left_edge» .entry))) (now («fac_id» .entry)) (now («start_edge» .entry)) (now (marks .entry)) ⌝ }
 {
-    let a = refusal::refuse_at(30, own(start_node, end_node, right_face, left_face, right_edge, left_edge, fac_id, start_edge, marks));
+    let a = refusal::refuse_at(
+        30,
+        own(
+            start_node,
+            end_node,
+            right_face,
+            left_face,
+            right_edge,
+            left_edge,
+            fac_id,
+            start_edge,
+            marks,
+        ),
+    );
     if a.number != 0 {
         return a;
     }

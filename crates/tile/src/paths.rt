@@ -4,7 +4,6 @@ use crate::Walked;
 use crate::owners;
 use refusal::Refusal;
 use side::Successor;
-
 ghost use mathlib.Core.Path.{_≡_};
 ghost use Prim.Native.Nat.{ℕ, _*_, _≤_};
 ghost use lib.ListN.{length};
@@ -43,7 +42,15 @@ fn count_moves(
     let mut s = start;
     let mut k: usize = 0;
     while k < n {
-        match side::next_side(start_node, end_node, right_face, left_face, right_edge, left_edge, s) {
+        match side::next_side(
+            start_node,
+            end_node,
+            right_face,
+            left_face,
+            right_edge,
+            left_edge,
+            s,
+        ) {
             Successor::Side(u) => {
                 s = u;
             }
@@ -80,7 +87,15 @@ fn write_sides(
     let mut j: usize = 0;
     while j < k {
         out[j] = s as u32;
-        s = owners::side_after(start_node, end_node, right_face, left_face, right_edge, left_edge, s);
+        s = owners::side_after(
+            start_node,
+            end_node,
+            right_face,
+            left_face,
+            right_edge,
+            left_edge,
+            s,
+        );
         j += 1;
     }
 }
@@ -102,12 +117,30 @@ pub(crate) fn walk_from(
     ensures { λ w. ⌜ w ≡ walked r (length (now (out .entry))) (moves (edges (now («start_node» .entry)) (now («end_node» .entry)) (now («right_face» .entry)) (now («left_face» .entry)) (now («right_edge» .entry)) (now («left_edge» .entry))) start) ⌝ }
     ensures { λ w. ⌜ now (out .exit) ≡ pathWritten (edges (now («start_node» .entry)) (now («end_node» .entry)) (now («right_face» .entry)) (now («left_face» .entry)) (now («right_edge» .entry)) (now («left_edge» .entry))) start w (now (out .entry)) ⌝ }
 {
-    match count_moves(start_node, end_node, right_face, left_face, right_edge, left_edge, start) {
+    match count_moves(
+        start_node,
+        end_node,
+        right_face,
+        left_face,
+        right_edge,
+        left_edge,
+        start,
+    ) {
         Moves::Back(k) => {
             if out.len() < k {
                 return Walked::Refused(refusal::refuse(14, k));
             }
-            write_sides(start_node, end_node, right_face, left_face, right_edge, left_edge, start, k, out);
+            write_sides(
+                start_node,
+                end_node,
+                right_face,
+                left_face,
+                right_edge,
+                left_edge,
+                start,
+                k,
+                out,
+            );
             Walked::Steps(k)
         }
         Moves::Open => Walked::Refused(refusal::refuse(32, r)),

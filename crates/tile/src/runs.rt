@@ -71,5 +71,8 @@ pub(crate) fn bad_run(ring_ptr: &[u32], fac_id: &[u32]) -> usize
     requires { ⌜ lowest (entryOutside (length (now «ring_ptr»)) (now «fac_id»)) (length (now «fac_id»)) ≡ 0 ⌝ }
     ensures { λ r. ⌜ r ≡ lowest (runBroken (now («ring_ptr» .entry)) (now («fac_id» .entry))) (length (now («ring_ptr» .entry))) ⌝ }
 {
-    lesser_of(lowest_pointing_away(ring_ptr, fac_id), lowest_misplaced(ring_ptr, fac_id))
+    lesser_of(
+        lowest_pointing_away(ring_ptr, fac_id),
+        lowest_misplaced(ring_ptr, fac_id),
+    )
 }

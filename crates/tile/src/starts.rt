@@ -2,7 +2,6 @@
 use crate::columns;
 use crate::runs;
 use refusal::Refusal;
-
 ghost use mathlib.Core.Path.{_≡_};
 ghost use Prim.Native.Nat.{ℕ};
 ghost use lib.ListN.{length};
@@ -124,5 +123,15 @@ pub(crate) fn judge_rings(
     if c.number != 0 {
         return c;
     }
-    refusal::refuse_at(29, bad_start(start_node.len(), faces, right_face, left_face, fac_id, start_edge))
+    refusal::refuse_at(
+        29,
+        bad_start(
+            start_node.len(),
+            faces,
+            right_face,
+            left_face,
+            fac_id,
+            start_edge,
+        ),
+    )
 }

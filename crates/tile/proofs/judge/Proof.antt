@@ -78,12 +78,19 @@ returns-3 c =
 
 judge-owners-requires : tie.Need-judge-owners-requires
 judge-owners-requires c κs =
-    let t = whole (c .before .before .before .before .before .before .before .before .before .before .before .before .before .before .before .before .before .before .before .before .before .before .before .before .before) in
-    ((short (c .before .before .before .before .before .before .before .before .before .before .before .before .before .before .before .before .before .before .before .before .before .before .before .before .before) .0, short (c .before .before .before .before .before .before .before .before .before .before .before .before .before .before .before .before .before .before .before .before .before .before .before .before .before) .1),
-    (sides-fine (t .edg) (F t) (N t) (sym (ap (λ (r : Refusal). r .number) ((c .before .before .before .before .before .before .before .before .before .before .before .before .before .judge-edges) .ensures)) ∙ (c .before .before .before .before .before .before .before .before .before .before .before .if1) .left),
-    (sym ((c .before .before .before .before .before .before .before .before .before .doubled) .ensures .0) ∙ located-fine 26 ((c .before .before .before .before .before .before .before .before .before .doubled) .result) (λ e. omega arith) (sym (ap (λ (r : Refusal). r .number) ((c .before .before .before .before .before .before .refuse-at) .ensures)) ∙ (c .before .before .before .before .if2) .left),
-    (omega (arith, (c .before .before .before .before .before .before .before .before .before .before .before .before .before .before .before .before .before .before .before .before .before .before .before .before .before .pre) .1, (c .before .before .before .before .before .before .before .before .before .doubled) .kept .1 .1 .1 .1 .1 .1 .0),
-    starts-found (t .edg) (t .ringPtr) (t .facId) (t .startEdge) (t .firstEdge) (sym (ap (λ (r : Refusal). r .number) ((c .before .before .before .judge-rings) .ensures)) ∙ (c .before .if3) .left)))))
+    let t = whole (c .before .before .before .before .before .before .before .before .before .before .before .before .before .before .before .before .before .before .before .before .before .before .before .before .before) in (
+      (short (c .before .before .before .before .before .before .before .before .before .before .before .before .before .before .before .before .before .before .before .before .before .before .before .before .before) .0, short (c .before .before .before .before .before .before .before .before .before .before .before .before .before .before .before .before .before .before .before .before .before .before .before .before .before) .1),
+      (
+        sides-fine (t .edg) (F t) (N t) (sym (ap (λ (r : Refusal). r .number) ((c .before .before .before .before .before .before .before .before .before .before .before .before .before .judge-edges) .ensures)) ∙ (c .before .before .before .before .before .before .before .before .before .before .before .if1) .left),
+        (
+          sym ((c .before .before .before .before .before .before .before .before .before .doubled) .ensures .0) ∙ located-fine 26 ((c .before .before .before .before .before .before .before .before .before .doubled) .result) (λ e. omega arith) (sym (ap (λ (r : Refusal). r .number) ((c .before .before .before .before .before .before .refuse-at) .ensures)) ∙ (c .before .before .before .before .if2) .left),
+          (
+            omega (arith, (c .before .before .before .before .before .before .before .before .before .before .before .before .before .before .before .before .before .before .before .before .before .before .before .before .before .pre) .1, (c .before .before .before .before .before .before .before .before .before .doubled) .kept .1 .1 .1 .1 .1 .1 .0),
+            starts-found (t .edg) (t .ringPtr) (t .facId) (t .startEdge) (t .firstEdge) (sym (ap (λ (r : Refusal). r .number) ((c .before .before .before .judge-rings) .ensures)) ∙ (c .before .if3) .left),
+          ),
+        ),
+      ),
+    )
 
 clear-requires-4 : tie.Need-clear-requires-4
 clear-requires-4 c κs = omega (arith, (c .before .before .before .before .before .before .before .before .before .before .before .before .before .before .before .before .before .before .before .before .before .before .before .before .before .before .before .before .before .before .before .pre) .1, (c .before .before .before .before .before .before .before .before .before .before .before .before .before .before .before .doubled) .kept .1 .1 .1 .1 .1 .1 .0, (c .before .before .before .before .before .judge-owners) .kept .1 .1 .1 .1 .1 .1 .1 .1 .0)

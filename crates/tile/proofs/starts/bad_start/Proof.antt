@@ -61,9 +61,12 @@ loop-again c =
     let a = (c .before .before .before .before .before .before .before .before .before .before .args) in
     let n = length (a .fac-id .now) in
     let p : ℕ → Bool = λ r. startMissing (a .edges) (a .faces) n (a .right-face .now) (a .left-face .now) (entry (a .fac-id .now) r) (entry (a .start-edge .now) r) in
-    let e = (c .before .before .before .row) .ensures ∙ ap (entry (a .start-edge .now)) (add-one ((c .before .before .before .before .before .loop) .i)) in
-    (omega arith, refl, none-next p ((c .before .before .before .before .before .loop) .i) ((c .before .before .before .before .before .loop) .inv .2)
-    (sym ((c .before .has-no-start) .ensures ∙ ap (startMissing (a .edges) (a .faces) n (a .right-face .now) (a .left-face .now) (getD (a .fac-id .now) ((c .before .before .before .before .before .loop) .i) 0)) e) ∙ (c .if1) .left))
+    let e = (c .before .before .before .row) .ensures ∙ ap (entry (a .start-edge .now)) (add-one ((c .before .before .before .before .before .loop) .i)) in (
+      omega arith,
+      refl,
+      none-next p ((c .before .before .before .before .before .loop) .i) ((c .before .before .before .before .before .loop) .inv .2)
+          (sym ((c .before .has-no-start) .ensures ∙ ap (startMissing (a .edges) (a .faces) n (a .right-face .now) (a .left-face .now) (getD (a .fac-id .now) ((c .before .before .before .before .before .loop) .i) 0)) e) ∙ (c .if1) .left),
+    )
 
 returns-2 : tie.Need-returns-2 Inv-loop μ-loop
 returns-2 c =
