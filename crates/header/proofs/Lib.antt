@@ -5,3 +5,4 @@ pub mod StepLaws
 pub mod JudgeLaws
 pub mod LayoutLaws
 pub mod HeaderLaws
+pub mod Examples
