@@ -5,7 +5,6 @@ ghost use Prim.Native.Nat.{_+_, _≤_, min};
 ghost use lib.ListN.{length};
 ghost use Rattle.io.specs.Counts.{Counts};
 ghost use Rattle.casefile.specs.Fields.{startOf, endOf, fieldAt};
-
 use number::Order;
 
 // The bytes of a field's length.

@@ -2,7 +2,6 @@
 // label and the whole answer. A case is a field of three fields: the label, whose first letter says what is asked, and two of
 // which it is asked.
 ghost use Prim.Native.Nat.{_≤_};
-
 use field::Double;
 use field::FieldType;
 use field::Float;
@@ -110,7 +109,8 @@ fn triplet_written(row: &mut [u8], ask: &[u8], order: Order) {
     let id = number::read4(ask, 9, Order::Least);
     let tile = number::read4(ask, 13, Order::Least);
     let other = number::read4(ask, 17, Order::Least);
-    match triplet::write(row, at, Ids { id: id, tile: tile, other: other }, order) {
+    let ids = Ids { id, tile, other };
+    match triplet::write(row, at, ids, order) {
         Written::Bytes(n) => say_number(n as u64),
         Written::Refused(bad) => say_refusal(bad),
     }
@@ -235,7 +235,12 @@ fn run_case(case: &[u8]) {
     let second = casefile::after(case, first);
     say(label);
     say(b": ");
-    answer(number::read1(label, 0, Order::Least), casefile::field(case, first), casefile::field(case, second));
+    let kind = number::read1(label, 0, Order::Least);
+    answer(
+        kind,
+        casefile::field(case, first),
+        casefile::field(case, second),
+    );
     say(b"\n");
 }
 

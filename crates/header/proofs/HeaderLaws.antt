@@ -1,17 +1,16 @@
 -- What is read of an accepted header, and of a refused one. Assumes nothing.
-use mathlib.Core.Path.{_≡_, refl, sym, ap, _∙_}
-use mathlib.Core.Bool.{Bool, true, false, cond}
+use mathlib.Core.Path.{_≡_, sym, ap, _∙_}
+use mathlib.Core.Bool.{true, false}
 use mathlib.Core.List.{List}
-use Prim.Native.Nat.{ℕ, _+_, _-_, _≤_}
+use Prim.Native.Nat.{ℕ, _-_}
 use native.Mathlib.Nat.{sub-zero}
 use borrow.Author.Tests.{eq-eqb, ne-eqb}
 use lib.Dec.{eqb}
-use lib.ListN.{take, drop}
+use lib.ListN.{take}
 use Rattle.refusal.specs.declared.Refusal.{Refusal}
 use Rattle.header.specs.declared.Answer.the-variants as answers
 use Rattle.header.specs.declared.Step.the-variants as steps
 use Rattle.header.specs.declared.Layout.{Layout}
-use Rattle.header.specs.declared.Header.{Header}
 use Rattle.header.specs.declared.Facts.{Facts}
 use Rattle.header.specs.Places.{firstPlace}
 use Rattle.header.specs.Names.{columnNamed}

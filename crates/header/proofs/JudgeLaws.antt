@@ -1,14 +1,13 @@
 -- The tests of a header, stage by stage, as the code makes them. Assumes nothing.
 use mathlib.Core.Path.{_≡_, refl, sym, ap, _∙_}
-use mathlib.Core.Bool.{Bool, true, false, cond, not}
-use mathlib.Core.List.{List, [], _∷_}
-use Prim.Native.Nat.{ℕ, zero, suc, pred, _+_, _-_, _≤_, _<_}
+use mathlib.Core.Bool.{Bool, true, false}
+use mathlib.Core.List.{List}
+use Prim.Native.Nat.{ℕ, suc, _+_, _-_, _≤_, _<_}
 use native.Mathlib.Omega.{arith}
 use native.Mathlib.Numerals.{add-one}
-use native.Mathlib.Nat.{sub-zero}
 use borrow.Author.Tests.{eq-eqb, ne-eqb, lt-ltb, le-ltb, ltb-false, eqb-true, eqb-false}
 use lib.Dec.{eqb, ltb}
-use lib.ListN.{length, getD, take, drop, length-drop}
+use lib.ListN.{length, take, drop, length-drop}
 use lib.Seq.{length-take-le, take-all}
 use Rattle.laws.specs.Lowest.{lowest}
 use Rattle.laws.proofs.LowestLaws.{bool-cases}
@@ -23,11 +22,10 @@ use Rattle.grammar.specs.declared.Scan.the-variants.{Columns, BadByte}
 use Rattle.grammar.specs.Scan.{scanOf}
 use Rattle.header.specs.declared.Definition.{Definition}
 use Rattle.header.specs.declared.Facts.{Facts}
-use Rattle.header.specs.declared.Judged.{Judged}
 use Rattle.header.specs.declared.Judged.the-variants.{Sound, Refused}
 use Rattle.header.specs.Places.{definition, placeAfter, column}
 use Rattle.header.specs.Names.{namedBefore, columnNamed}
-use Rattle.header.specs.Judge.{mostText, mostColumns, orderByte, orderOfFile, textLength, headOf, textOf, columnsOf, columnCount, sound, columnRefusal, idName, idSound, otherKeyP, idColumn, idWrong, tests, headerRefusal}
+use Rattle.header.specs.Judge.{mostText, mostColumns, orderByte, orderOfFile, textLength, headOf, textOf, columnCount, sound, columnRefusal, idName, idSound, otherKeyP, idColumn, idWrong, tests, headerRefusal}
 use Rattle.header.specs.Stages.{mostHead, nameTests, columnTests, textTests, facts, judged, judgedText, judgedFile}
 use Rattle.header.proofs.PlaceLaws.{is-column}
 

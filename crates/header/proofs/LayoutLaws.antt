@@ -1,21 +1,19 @@
 -- One more column laid out. Assumes nothing.
-use mathlib.Core.Path.{_≡_, refl, sym, ap, _∙_}
-use mathlib.Core.Bool.{Bool, true, false, cond}
-use mathlib.Core.List.{List, [], _∷_, _++_}
-use Prim.Native.Nat.{ℕ, zero, suc, pred, _+_, _-_, _≤_, _<_}
-use native.Mathlib.Omega.{arith}
+use mathlib.Core.Path.{_≡_, ap, _∙_}
+use mathlib.Core.Bool.{Bool, true, cond}
+use mathlib.Core.List.{List, _++_}
+use Prim.Native.Nat.{ℕ, suc, _+_, _-_, _<_}
 use native.Mathlib.Numerals.{add-one}
 use lib.ListN.{set, replicate}
 use Rattle.laws.proofs.BufferLaws.{oneTo-next}
 use Rattle.header.specs.declared.Definition.{Definition}
 use Rattle.header.specs.declared.ColumnLayout.{ColumnLayout}
-use Rattle.header.specs.declared.Layout.{Layout}
 use Rattle.header.specs.declared.Laid.{Laid}
 use Rattle.header.specs.declared.Facts.{Facts}
-use Rattle.header.specs.Places.{definition, placeAfter, column}
+use Rattle.header.specs.Places.{definition, placeAfter}
 use Rattle.header.specs.Names.{columnNamed}
 use Rattle.header.specs.Judge.{mostColumns, idName, idColumn}
-use Rattle.header.specs.Layouts.{varies, fieldSize, someVaries, bytesOfAll, columnLayout, blankColumn, laidOut, rowWidth}
+use Rattle.header.specs.Layouts.{varies, someVaries, bytesOfAll, columnLayout, blankColumn, laidOut, rowWidth}
 use Rattle.header.specs.Stages.{layoutAt, laidColumns, layoutFrom}
 use Rattle.header.proofs.PlaceLaws.{is-column}
 

@@ -14,3 +14,4 @@ pub mod StepLaws
 pub mod JudgeLaws
 pub mod LayoutLaws
 pub mod HeaderLaws
+pub mod Examples

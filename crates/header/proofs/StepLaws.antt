@@ -1,8 +1,8 @@
 -- The step at a place, as a loop over the columns finds it. Assumes nothing.
-use mathlib.Core.Path.{_≡_, refl, sym, ap, _∙_}
-use mathlib.Core.Bool.{Bool, true, false, cond}
+use mathlib.Core.Path.{_≡_, sym, _∙_}
+use mathlib.Core.Bool.{Bool, true}
 use mathlib.Core.List.{List}
-use Prim.Native.Nat.{ℕ, zero, suc, pred, _+_, _≤_, _<_}
+use Prim.Native.Nat.{ℕ, suc, pred, _+_, _≤_, _<_}
 use native.Mathlib.Omega.{arith}
 use borrow.Author.Tests.{eq-eqb, ne-eqb}
 use lib.Dec.{eqb}
@@ -11,10 +11,8 @@ use Rattle.laws.proofs.LowestLaws.{none-next, lowest-found, lowest-nothing}
 use Rattle.refusal.specs.declared.Refusal.{Refusal}
 use Rattle.refusal.specs.Order.{refusal}
 use Rattle.header.specs.declared.Definition.{Definition}
-use Rattle.header.specs.declared.Step.{Step}
 use Rattle.header.specs.declared.Step.the-variants.{Column, Done, Refused}
 use Rattle.header.specs.Places.{definition, placeAfter}
-use Rattle.header.specs.Steps.{stepFrom}
 use Rattle.header.specs.Stages.{stepIn}
 
 -- column k starts at the place

@@ -2,10 +2,9 @@
 use mathlib.Core.Bool.{Bool, true, false, cond}
 use mathlib.Core.List.{List, _++_}
 use Prim.Native.Nat.{ℕ, zero, suc, pred, _+_, _-_, _*_}
-use lib.Dec.{eqb, ltb}
+use lib.Dec.{eqb}
 use lib.ListN.{replicate}
 use Rattle.laws.specs.Buffer.{oneTo}
-use Rattle.refusal.specs.declared.Refusal.{Refusal}
 use Rattle.number.specs.declared.Order.the-variants.{Least}
 use Rattle.field.specs.declared.FieldType.{FieldType}
 use Rattle.field.specs.declared.FieldType.the-variants.{Text}

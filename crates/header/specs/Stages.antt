@@ -1,8 +1,8 @@
 -- The tests in the stages in which the code makes them, and what one stage hands to the next. Joined they are the header's tests
 -- in their order: no stage adds one.
-use mathlib.Core.Bool.{Bool, cond}
+use mathlib.Core.Bool.{cond}
 use mathlib.Core.List.{List, [], _∷_, _++_}
-use Prim.Native.Nat.{ℕ, zero, suc, _+_, _-_, _*_}
+use Prim.Native.Nat.{ℕ, _+_, _-_, _*_}
 use lib.Dec.{eqb, ltb}
 use lib.ListN.{length, replicate}
 use Rattle.laws.specs.Lowest.{lowest}
@@ -12,7 +12,6 @@ use Rattle.refusal.specs.Order.{refusedIf, located, lowestOf, firstOf}
 use Rattle.number.specs.declared.Order.{Order}
 use Rattle.grammar.specs.declared.Scan.{Scan}
 use Rattle.field.specs.Fields.{typeOf, widest}
-use Rattle.header.specs.declared.Span.{Span}
 use Rattle.header.specs.declared.Definition.{Definition}
 use Rattle.header.specs.declared.ColumnLayout.{ColumnLayout}
 use Rattle.header.specs.declared.Layout.{Layout}

@@ -16,10 +16,10 @@ ghost use Rattle.number.specs.Bytes.{orderOf};
 ghost use Rattle.number.specs.declared.OrderLetter.the-variants as letters;
 ghost use Rattle.grammar.specs.Scan.{scanOf};
 ghost use Rattle.field.specs.Fields.{typeOf};
-ghost use Rattle.header.specs.Places.{seek, decimal, countOf, part, definition, firstPlace, placeAfter};
+ghost use Rattle.header.specs.Places.{seek, mostDigits, decimal, countOf, part, definition, firstPlace, placeAfter};
 ghost use Rattle.header.specs.Names.{lower, sameText, namedBefore, columnNamed};
-ghost use Rattle.header.specs.Judge.{keyP, keyListed, sound, columnRefusal, idSound, otherKeyP, idWrong};
-ghost use Rattle.header.specs.Layouts.{kindOf, varies, fieldSize, blankLayout, headerOf};
+ghost use Rattle.header.specs.Judge.{mostColumns, keyP, keyListed, sound, columnRefusal, idSound, otherKeyP, idWrong};
+ghost use Rattle.header.specs.Layouts.{kindOf, varies, fieldSize, blankColumn, blankLayout, headerOf};
 ghost use Rattle.header.specs.Steps.{stepOf, startOf, columnOf};
 ghost use Rattle.header.specs.Stages.{mostHead, greatestCount, greatestSize, namesOf, nameTests, columnTests, judgedText, judgedFile, layoutAt, laidColumns, layoutFrom, stepIn};
 
@@ -149,7 +149,7 @@ fn digit_of(byte: u8) -> u32
 
 // The number that the at most five bytes from p to e say.
 fn number_from(head: &[u8], p: usize, e: usize) -> u32
-    requires { ⌜ (e ≤ length (now head)) × (e ≤ p + 5) ⌝ }
+    requires { ⌜ (e ≤ length (now head)) × (e ≤ p + mostDigits) ⌝ }
     ensures { λ r. ⌜ r ≡ decimal 0 (take (e - p) (drop p (now (head .entry)))) ⌝ }
     ensures { λ r. ⌜ r ≤ greatestCount ⌝ }
 {
@@ -174,7 +174,8 @@ fn count_of(head: &[u8], p: usize, e: usize) -> u32
     number_from(head, p, e)
 }
 
-// The definition at p: each field ends at the next byte that separates.
+// The definition at p: each field ends at the next byte that separates. Between a name and a count stand `=`, the type and `,`;
+// between a count and a description `,`, the key and `,`; after the last name `,` and `:`.
 fn definition_at(head: &[u8], p: usize) -> Definition
     requires { ⌜ length (now head) ≤ mostHead ⌝ }
     ensures { λ r. ⌜ r ≡ definition (now (head .entry)) p ⌝ }
@@ -286,7 +287,7 @@ fn same_name(head: &[u8], a: Span, b: Span) -> bool
 
 // Where the names of the columns lie, in one pass.
 fn gather_names(head: &[u8], n: usize) -> Names
-    requires { ⌜ (length (now head) ≤ mostHead) × (n ≤ 64) ⌝ }
+    requires { ⌜ (length (now head) ≤ mostHead) × (n ≤ mostColumns) ⌝ }
     ensures { λ r. ⌜ r ≡ namesOf (now (head .entry)) n ⌝ }
 {
     let nowhere = Span { start: 0, end: 0 };
@@ -305,7 +306,7 @@ fn gather_names(head: &[u8], n: usize) -> Names
 
 // "Two columns with one name are refused at the first such pair (lowest later column), case ignored": that column, or 0.
 fn doubled_name(head: &[u8], n: usize) -> usize
-    requires { ⌜ (length (now head) ≤ mostHead) × (n ≤ 64) ⌝ }
+    requires { ⌜ (length (now head) ≤ mostHead) × (n ≤ mostColumns) ⌝ }
     ensures { λ r. ⌜ r ≡ lowest (namedBefore (now (head .entry))) n ⌝ }
 {
     let names = gather_names(head, n);
@@ -446,7 +447,7 @@ fn id_wrong(head: &[u8], n: usize) -> bool
 
 // 5 for a name, then 6.
 fn judge_names(head: &[u8], n: usize) -> Refusal
-    requires { ⌜ (length (now head) ≤ mostHead) × (n ≤ 64) ⌝ }
+    requires { ⌜ (length (now head) ≤ mostHead) × (n ≤ mostColumns) ⌝ }
     ensures { λ r. ⌜ r ≡ firstOf (nameTests (now (head .entry)) n) ⌝ }
 {
     let doubled = doubled_name(head, n);
@@ -571,6 +572,19 @@ fn lay_column(d: Definition, offset: u32) -> ColumnLayout
     }
 }
 
+// What stands past the last column of a layout.
+fn blank_column() -> ColumnLayout
+    ensures { λ r. ⌜ r ≡ blankColumn ⌝ }
+{
+    ColumnLayout {
+        kind: FieldType::Text,
+        star: false,
+        count: 0,
+        size: 0,
+        offset: 0,
+    }
+}
+
 // Whether an earlier column varies, or this one does.
 fn either_varies(earlier: bool, d: Definition) -> bool
     ensures { λ r. ⌜ r ≡ cond earlier true (varies d) ⌝ }
@@ -587,16 +601,10 @@ fn width_of(varying: bool, bytes: u32) -> u32
 
 // The columns one by one, each after the fixed bytes of those before it.
 fn lay_columns(head: &[u8], n: usize) -> Laid
-    requires { ⌜ (length (now head) ≤ mostHead) × (n ≤ 64) ⌝ }
+    requires { ⌜ (length (now head) ≤ mostHead) × (n ≤ mostColumns) ⌝ }
     ensures { λ r. ⌜ r ≡ laidColumns (now (head .entry)) n ⌝ }
 {
-    let blank = ColumnLayout {
-        kind: FieldType::Text,
-        star: false,
-        count: 0,
-        size: 0,
-        offset: 0,
-    };
+    let blank = blank_column();
     let mut cols = [blank; 64];
     let mut at = first_definition(head);
     let mut bytes: u32 = 0;
@@ -617,7 +625,7 @@ fn lay_columns(head: &[u8], n: usize) -> Laid
 
 // The layout of an accepted header.
 fn lay_out(head: &[u8], facts: Facts) -> Layout
-    requires { ⌜ (length (now head) ≤ mostHead) × (facts .start ≤ mostHead) × (facts .columns ≤ 64) ⌝ }
+    requires { ⌜ (length (now head) ≤ mostHead) × (facts .start ≤ mostHead) × (facts .columns ≤ mostColumns) ⌝ }
     ensures { λ r. ⌜ r ≡ layoutFrom (now (head .entry)) facts ⌝ }
 {
     let order = facts.order;
@@ -638,13 +646,7 @@ fn lay_out(head: &[u8], facts: Facts) -> Layout
 fn blank_layout() -> Layout
     ensures { λ r. ⌜ r ≡ blankLayout ⌝ }
 {
-    let blank = ColumnLayout {
-        kind: FieldType::Text,
-        star: false,
-        count: 0,
-        size: 0,
-        offset: 0,
-    };
+    let blank = blank_column();
     let cols = [blank; 64];
     Layout {
         order: Order::Least,
