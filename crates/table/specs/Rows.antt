@@ -121,6 +121,13 @@ unfoldable pub placesOf : List ℕ → Layout → ℕ → ℕ → List ℕ → P
 placesOf s l start end slots =
     cond (outside s start end) (record { reach = Short; at = noPlaces }) (walked s l start end slots (columnsOf l))
 
+-- the slots of a walk that looks for the id column and for column k, and the place that it kept for a column
+abbrev pub slotsFor : ℕ → ℕ → List ℕ
+slotsFor id k = set (set (replicate mostColumns 0) (id - 1) 1) (k - 1) 2
+
+abbrev pub keptFor : List ℕ → List ℕ → ℕ → ℕ
+keptFor at slots k = getD at (slotOf slots k) 0
+
 -- ---- the judgement
 
 -- the id of a row whose id column starts at the place p
@@ -138,8 +145,11 @@ usedUp (Cut q) end i rest = refusal 11 q
 
 -- where column k starts in the row: by its offset where all rows have one width (within the row in any case), else past the fields
 -- before it
+abbrev pub offsetPlace : Layout → ℕ → ℕ → ℕ → ℕ
+offsetPlace l start end k = min (start + columnAt l k .offset) end
+
 unfoldable pub columnPlace : List ℕ → Layout → ℕ → ℕ → ℕ → ℕ
-columnPlace s l start end k = cond (needsIndex l) (placeOfColumn s l start end k) (min (start + columnAt l k .offset) end)
+columnPlace s l start end k = cond (needsIndex l) (placeOfColumn s l start end k) (offsetPlace l start end k)
 
 -- the fields of row i from start to end. A row of fixed width has its fields' bytes by the opening: only its id is left to judge
 unfoldable pub fieldsRefusal : List ℕ → Layout → ℕ → ℕ → ℕ → Refusal

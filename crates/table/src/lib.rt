@@ -5,7 +5,9 @@ ghost use Prim.Native.Nat.{min, _+_, _-_, _*_, _≤_, _<_};
 ghost use lib.ListN.{length, getD, set};
 ghost use Rattle.field.specs.Fields.{widest};
 ghost use Rattle.header.specs.Judge.{mostColumns};
-ghost use Rattle.table.specs.Rows.{columnsOf, noSuch, outside, plainEnd, starEnd, tripletEnd, fieldEnd, placesOf, walked, noPlaces};
+ghost use Rattle.header.specs.Layouts.{blankColumn};
+ghost use Rattle.table.specs.Opening.{mostRows, endAt};
+ghost use Rattle.table.specs.Rows.{columnsOf, noSuch, noSuchColumn, outside, columnAt, boundOf, plainEnd, starEnd, tripletEnd, fieldEnd, walked, slotsFor, keptFor, placesOf, idRefusal, usedUp, columnPlace, offsetPlace, fieldsRefusal, placeRefusal, rowRefusal, rowOf};
 
 use field::FieldType;
 use header::Answer;
@@ -196,4 +198,75 @@ fn walk(file: &[u8], layout: Layout, start: usize, end: usize, slots: [u8; 64], 
     }
     let done = Reach::At(p);
     Places { reach: done, at: at }
+}
+
+// The columns that a layout has: those past the 64th are not there.
+fn count_columns(layout: Layout) -> usize
+    ensures { λ r. ⌜ r ≡ columnsOf layout ⌝ }
+{
+    lesser(layout.columns, MOST_COLUMNS)
+}
+
+// One walk over a whole row that keeps the places of the columns that `slots` asks for.
+pub fn find_places(file: &[u8], layout: Layout, start: usize, end: usize, slots: [u8; 64]) -> Places
+    ensures { λ r. ⌜ r ≡ placesOf (now (file .entry)) layout start end slots ⌝ }
+{
+    if lies_outside(file, start, end) {
+        let none = Reach::Short;
+        return Places { reach: none, at: [0usize; 8] };
+    }
+    walk(file, layout, start, end, slots, count_columns(layout))
+}
+
+// The slots that ask for the id column and for one other, or for that one alone.
+fn slots_for(id: usize, column: usize) -> [u8; 64]
+    requires { ⌜ (0 < id) × (id ≤ mostColumns) × (0 < column) × (column ≤ mostColumns) ⌝ }
+    ensures { λ r. ⌜ r ≡ slotsFor id column ⌝ }
+{
+    let mut slots = [0u8; 64];
+    slots[id - 1] = ID_SLOT;
+    slots[column - 1] = COLUMN_SLOT;
+    slots
+}
+
+// The place that the walk kept for a column.
+fn kept_place(at: [usize; 8], slots: [u8; 64], column: usize) -> usize
+    requires { ⌜ (0 < column) × (column ≤ mostColumns) × (length at ≡ 8) ⌝ }
+    ensures { λ r. ⌜ r ≡ keptFor at slots column ⌝ }
+{
+    let slot = slots[column - 1] as usize;
+    if slot < 8 { at[slot] } else { 0 }
+}
+
+// ---- the judgement
+
+// 9 where the number at the place of the id is not the row's.
+fn judge_id(file: &[u8], layout: Layout, place: usize, row: usize) -> Refusal
+    ensures { λ r. ⌜ r ≡ idRefusal (now (file .entry)) layout place row ⌝ }
+{
+    let order = layout.order;
+    if number::read4(file, place, order) as usize == row {
+        return refusal::no_refusal();
+    }
+    refusal::refuse(WRONG_ID, row)
+}
+
+// 10 for a row too short or not used up, 11 for a bad triplet, else the judgement of its id.
+fn judge_end(reach: Reach, end: usize, row: usize, id: Refusal) -> Refusal
+    ensures { λ r. ⌜ r ≡ usedUp reach end row id ⌝ }
+{
+    match reach {
+        Reach::At(p) => {
+            if p == end {
+                return id;
+            }
+            return refusal::refuse(WRONG_ROW, row);
+        }
+        Reach::Short => {
+            return refusal::refuse(WRONG_ROW, row);
+        }
+        Reach::Cut(q) => {
+            return refusal::refuse(BAD_TRIPLET, q);
+        }
+    }
 }
