@@ -53,6 +53,11 @@ pub neither-true : (x y : Bool) → cond x false y ≡ true → (x ≡ false) ×
 neither-true true y e = absurd (true≢false (sym e))
 neither-true false y e = (refl, e)
 
+-- neither, where either one decides
+pub both-false : (x y : Bool) → cond x true y ≡ false → (x ≡ false) × (y ≡ false)
+both-false true y e = absurd (true≢false e)
+both-false false y e = (refl, e)
+
 pub cond-same : (x y : Bool) → cond x y y ≡ y
 cond-same true y = refl
 cond-same false y = refl
