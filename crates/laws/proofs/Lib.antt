@@ -9,3 +9,4 @@ pub mod LanguageLaws
 pub mod SeparatorLaws
 pub mod LentLaws
 pub mod ForemostLaws
+pub mod PlaceLaws

@@ -23,3 +23,17 @@ pub record At (p : ℕ → Bool) (n r : ℕ) : Type 0 where
   pub within : r ≤ n
   pub passes : p r ≡ true
   pub below : (k : ℕ) → 0 < k → k < r → p k ≡ false
+
+-- k is one of 1..n
+abbrev pub In : ℕ → ℕ → Type 0
+In n k = (0 < k) × (k ≤ n)
+
+-- P holds at each of 1..n
+abbrev pub Each : ℕ → (ℕ → Type 0) → Type 0
+Each n P = (k : ℕ) → In n k → P k
+
+-- p is the lowest of 1..n at which P fails
+pub record LowestFailing (n : ℕ) (P : ℕ → Type 0) (p : ℕ) : Type 0 where
+  pub within : In n p
+  pub fails : P p → ⊥
+  pub below : (k : ℕ) → 0 < k → k < p → P k
