@@ -28,7 +28,7 @@ accepted-number q = (
 
 module _ (file : List ℕ) where
   -- L, and the reading of an accepted header's text
-  accepted-says : (h : Reading) (a : AcceptedHeader file h) → SaysLength file (number (a .order) file 0 4)
+  pub accepted-says : (h : Reading) (a : AcceptedHeader file h) → SaysLength file (number (a .order) file 0 4)
   accepted-says h a = record { order = a .order; letter = a .letter; says = refl }
 
   pub accepted-text : (h : Reading) → AcceptedHeader file h → TextReads file h

@@ -29,7 +29,7 @@ use Rattle.header.proofs.ColumnsShown.{column-well-formed, column-shown
 
 -- ---- the count that a definition shows
 
-numeral-not-star : Numeral (star ∷ []) → ⊥
+pub numeral-not-star : Numeral (star ∷ []) → ⊥
 numeral-not-star v = omega (arith, v .digits .bytes 0 (omega arith))
 
 -- the number of digits is at least what stands before the last, ten times
@@ -174,7 +174,7 @@ module _ (s : List ℕ) (h : Reading) (r : Reads (drop 4 s) h) where
   id-sound-at k i = id-sound-exactly s (placeAfter s (pred k)) (columnAt h k) (column s k) (shown k i) (well-formed-at k i .count)
 
   -- no two columns of one name
-  one-named : NamesDiffer h → (name : List ℕ) (i j : ℕ) → In columns i → In columns j
+  pub one-named : NamesDiffer h → (name : List ℕ) (i j : ℕ) → In columns i → In columns j
       → sameText (columnAt h i .name) name ≡ true → sameText (columnAt h j .name) name ≡ true → i ≡ j
   one-named d name i j a b e g =
       by-cases (decLt i j) (λ l. absurd (d j b i (a .0) l (same-as-third (columnAt h i .name) (columnAt h j .name) name e g)))

@@ -5,3 +5,5 @@ pub mod InOrder
 pub mod AcceptedExactly
 pub mod RefusedExactly
 pub mod StepsInOrder
+pub mod LayoutMeans
+pub mod ColumnOfName

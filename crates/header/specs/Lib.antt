@@ -5,3 +5,4 @@ pub mod Layouts
 pub mod Steps
 pub mod Words
 pub mod Refusals
+pub mod LayoutWords
