@@ -10,3 +10,4 @@ pub mod SeparatorLaws
 pub mod LentLaws
 pub mod ForemostLaws
 pub mod PlaceLaws
+pub mod PartitionLaws

@@ -1,3 +1,5 @@
 pub mod FieldLaws
 pub mod WalkLaws
 pub mod RowLaws
+pub mod OpeningInOrder
+pub mod OpenedExactly
