@@ -3,3 +3,4 @@ pub mod WalkLaws
 pub mod RowLaws
 pub mod OpeningInOrder
 pub mod OpenedExactly
+pub mod RowsPartition

@@ -68,12 +68,12 @@ module _ (file : List ℕ) (h : Reading) (a : AcceptedHeader file h) where
   one-width-exactly = (λ w. ⊎-elim (λ s. absurd (omega (arith, some-varies-no-width s))) (λ f. f) some-or-none-varies, none-varies-one-width)
 
 -- where row k ends by its entry
-end-at : (l : Layout) (index : List ℕ) (k : ℕ) → 0 < k → endAt l index k ≡ offsetAt l index k + lengthAt l index k
+pub end-at : (l : Layout) (index : List ℕ) (k : ℕ) → 0 < k → endAt l index k ≡ offsetAt l index k + lengthAt l index k
 unfolding endAt
 end-at l index zero p = absurd (omega arith)
 end-at l index (suc k) p = refl
 
-end-at-0 : (l : Layout) (index : List ℕ) → endAt l index 0 ≡ l .start
+pub end-at-0 : (l : Layout) (index : List ℕ) → endAt l index 0 ≡ l .start
 unfolding endAt
 end-at-0 l index = refl
 
@@ -131,18 +131,18 @@ module _ (file index : List ℕ) (most : ℕ) where
 
   module _ (h : Reading) (n : ℕ) (o : Opens file index most h n) where
     -- the body, whichever of the two the width says
-    body-fixed : OneWidth file → FixedBody l index (length file) n
+    pub body-fixed : OneWidth file → FixedBody l index (length file) n
     body-fixed w = ⊎-elim (λ b. b .1) (λ b. absurd (omega (arith, no-width-exactly file h (o .header) .1 (b .0)))) (o .body)
 
     body-indexed : NoWidth file → IndexedBody l index (length file) n
     body-indexed w = ⊎-elim (λ b. absurd (omega (arith, one-width-exactly file h (o .header) .1 (b .0)))) (λ b. b .1) (o .body)
 
-    starts-right : NoWidth file → (k : ℕ) → In n k → offsetAt l index k ≡ endAt l index (pred k)
+    pub starts-right : NoWidth file → (k : ℕ) → In n k → offsetAt l index k ≡ endAt l index (pred k)
     starts-right w zero i = absurd (omega (arith, i .0))
     starts-right w (suc zero) i = body-indexed w .row-1 (omega (arith, i .1)) ∙ sym (end-at-0 l index)
     starts-right w (suc (suc k)) i = body-indexed w .next-row (suc k) (omega arith) (i .1) ∙ sym (end-at l index (suc k) (omega arith))
 
-    ends-right : NoWidth file → (m : ℕ) → n ≡ m → endAt l index m ≡ length file
+    pub ends-right : NoWidth file → (m : ℕ) → n ≡ m → endAt l index m ≡ length file
     ends-right w zero e = end-at-0 l index ∙ body-indexed w .no-row e
     ends-right w (suc m) e = end-at l index (suc m) (omega arith) ∙ rw e at (body-indexed w .last-row (omega arith))
 
