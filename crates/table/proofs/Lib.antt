@@ -1,3 +1,6 @@
 pub mod FieldLaws
 pub mod WalkLaws
 pub mod RowLaws
+pub mod SlotLaws
+pub mod FoundLaws
+pub mod OpeningLaws
