@@ -7,7 +7,7 @@ use Prim.Native.Nat.{ℕ, zero, suc, pred, _+_, _-_, _≤_, _<_}
 use native.Mathlib.Numerals.{add-one}
 use native.Mathlib.Decide.{decLt, ℕ-discrete}
 use native.Mathlib.Omega.{arith}
-use lib.ListN.{length, getD, drop, set, length-append, length-drop, length-set, List·getD-append}
+use lib.ListN.{length, getD, drop, set, replicate, length-append, length-drop, length-set, List·getD-append}
 use lib.Seq.{drop-cons, set-at, getD-at, drop-at, getD-append-add, getD-drop, getD-set-same, getD-set-other, ext-getD}
 use Rattle.laws.specs.Orbit.{entry}
 use Rattle.laws.specs.Buffer.{listed, front}
@@ -82,3 +82,9 @@ front-ext g h n d e = ap (λ (r : List ℕ). r ++ drop n d) (listed-ext g h n e)
 -- one front over another
 pub front-over : (g h : ℕ → ℕ) (n : ℕ) (d : List ℕ) → front g n (front h n d) ≡ front g n d
 front-over g h n d = ap (λ (r : List ℕ). listed g n ++ r) (drop-at (listed h n) (drop n d) n (length-listed h n))
+
+-- zeros are 0 everywhere
+pub getD-zeros : (n i : ℕ) → _≡_ {A = ℕ} (getD (replicate n 0) i 0) 0
+getD-zeros zero i = refl
+getD-zeros (suc n) zero = refl
+getD-zeros (suc n) (suc i) = getD-zeros n i

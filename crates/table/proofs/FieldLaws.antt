@@ -19,11 +19,16 @@ use Rattle.triplet.specs.Triplet.{tripletOf}
 use Rattle.triplet.proofs.OnlyItsBytes.{within}
 use Rattle.header.specs.declared.ColumnLayout.{ColumnLayout}
 use Rattle.table.specs.declared.Reach.the-variants.{At, Short, Cut}
+use Rattle.table.specs.Opening.{mostRows}
 use Rattle.table.specs.Rows.{plainEnd, starEnd, pastTriplet, tripletEnd, fieldEnd}
 
 -- a count of four bytes times an element's width
 pub elements-room : (n w : ℕ) → n < 4294967296 → w ≤ widest → n * w < 18446744073709551616
 elements-room n w a b = let h : n * w ≤ 4294967296 * widest = mul-le-mul {n₂ = 4294967296} {m₂ = widest} (omega arith) b in omega arith
+
+-- a width of four bytes times a million rows
+pub rows-room : (w k : ℕ) → w < 4294967296 → k ≤ mostRows → w * k ≤ 4294967296 * mostRows
+rows-room w k a b = mul-le-mul {n₂ = 4294967296} {m₂ = mostRows} (omega arith) b
 
 not-reached : (p : ℕ) → Short ≡ At p → ⊥
 not-reached p e = let z : _≡_ {A = ℕ} 0 1 = cc in omega arith

@@ -4,3 +4,6 @@ pub mod RowLaws
 pub mod OpeningInOrder
 pub mod OpenedExactly
 pub mod RowsPartition
+pub mod SlotLaws
+pub mod FoundLaws
+pub mod OpeningLaws

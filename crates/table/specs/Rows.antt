@@ -21,6 +21,7 @@ use Rattle.table.specs.declared.Table.{Table}
 use Rattle.table.specs.declared.Reach.{Reach}
 use Rattle.table.specs.declared.Reach.the-variants.{At, Short, Cut}
 use Rattle.table.specs.declared.Places.{Places}
+use Rattle.table.specs.declared.Found.{Found}
 use Rattle.table.specs.declared.Row.{Row}
 use Rattle.table.specs.declared.Row.the-variants.{Between, Refused}
 use Rattle.table.specs.Opening.{mostRows, needsIndex, endAt}
@@ -157,6 +158,10 @@ fieldsRefusal s l start end i =
     cond (needsIndex l)
     (usedUp (reach s l start end (columnsOf l)) end i (idRefusal s l (columnPlace s l start end (l .id)) i))
     (idRefusal s l (columnPlace s l start end (l .id)) i)
+
+-- the judgement of the fields, and where column k starts
+unfoldable pub foundOf : List ℕ → Layout → ℕ → ℕ → ℕ → ℕ → Found
+foundOf s l start end i k = record { refusal = fieldsRefusal s l start end i; place = columnPlace s l start end k }
 
 -- a row that no fields can be looked for in: it lies outside the file, or its layout, which no header gave, has no id column
 abbrev pub placeRefusal : List ℕ → Layout → ℕ → ℕ → ℕ → Refusal

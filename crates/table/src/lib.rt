@@ -7,7 +7,7 @@ ghost use Rattle.field.specs.Fields.{widest};
 ghost use Rattle.header.specs.Judge.{mostColumns};
 ghost use Rattle.header.specs.Layouts.{blankColumn};
 ghost use Rattle.table.specs.Opening.{mostRows, endAt};
-ghost use Rattle.table.specs.Rows.{columnsOf, noSuch, noSuchColumn, outside, columnAt, boundOf, plainEnd, starEnd, tripletEnd, fieldEnd, walked, slotsFor, keptFor, placesOf, idRefusal, usedUp, columnPlace, offsetPlace, fieldsRefusal, placeRefusal, rowRefusal, rowOf};
+ghost use Rattle.table.specs.Rows.{columnsOf, noSuch, noSuchColumn, outside, columnAt, boundOf, plainEnd, starEnd, tripletEnd, fieldEnd, walked, slotsFor, keptFor, placesOf, foundOf, idRefusal, usedUp, columnPlace, offsetPlace, fieldsRefusal, placeRefusal, rowRefusal, rowOf};
 
 use field::FieldType;
 use header::Answer;
@@ -59,6 +59,12 @@ pub enum Reach {
 pub struct Places {
     pub reach: Reach,
     pub at: [usize; 8],
+}
+
+// What a row's fields come to: their judgement, and where the column asked for starts.
+struct Found {
+    refusal: Refusal,
+    place: usize,
 }
 
 pub enum Row {
@@ -269,4 +275,136 @@ fn judge_end(reach: Reach, end: usize, row: usize, id: Refusal) -> Refusal
             return refusal::refuse(BAD_TRIPLET, q);
         }
     }
+}
+
+// Where a column starts by its offset, in rows of one width: within the row in any case.
+fn offset_place(layout: Layout, start: usize, end: usize, column: usize) -> usize
+    requires { ⌜ (start ≤ end) × (0 < column) × (column ≤ mostColumns) ⌝ }
+    ensures { λ r. ⌜ r ≡ offsetPlace layout start end column ⌝ }
+{
+    let c = layout.cols[column - 1];
+    let offset = c.offset as usize;
+    if offset <= end - start {
+        return start + offset;
+    }
+    end
+}
+
+// A row that must be walked: once, for its id and for the column asked for.
+fn find_by_walk(file: &[u8], layout: Layout, start: usize, end: usize, row: usize, column: usize) -> Found
+    requires { ⌜ layout .width ≡ 0 ⌝ }
+    requires { ⌜ outside (now file) start end ≡ false ⌝ }
+    requires { ⌜ noSuchColumn layout (layout .id) ≡ false ⌝ }
+    requires { ⌜ noSuchColumn layout column ≡ false ⌝ }
+    ensures { λ r. ⌜ r ≡ foundOf (now (file .entry)) layout start end row column ⌝ }
+{
+    let id = layout.id;
+    let slots = slots_for(id, column);
+    let places = walk(file, layout, start, end, slots, count_columns(layout));
+    let at = places.at;
+    let reach = places.reach;
+    let judged = judge_end(reach, end, row, judge_id(file, layout, kept_place(at, slots, id), row));
+    let place = kept_place(at, slots, column);
+    Found { refusal: judged, place: place }
+}
+
+// A row of fixed width: nothing is walked.
+fn find_by_offset(file: &[u8], layout: Layout, start: usize, end: usize, row: usize, column: usize) -> Found
+    requires { ⌜ (layout .width ≡ 0 → ⊥) ⌝ }
+    requires { ⌜ outside (now file) start end ≡ false ⌝ }
+    requires { ⌜ noSuchColumn layout (layout .id) ≡ false ⌝ }
+    requires { ⌜ noSuchColumn layout column ≡ false ⌝ }
+    ensures { λ r. ⌜ r ≡ foundOf (now (file .entry)) layout start end row column ⌝ }
+{
+    let judged = judge_id(file, layout, offset_place(layout, start, end, layout.id), row);
+    let place = offset_place(layout, start, end, column);
+    Found { refusal: judged, place: place }
+}
+
+// The fields of a row: judged, and the column asked for found.
+fn find_column(file: &[u8], layout: Layout, start: usize, end: usize, row: usize, column: usize) -> Found
+    requires { ⌜ outside (now file) start end ≡ false ⌝ }
+    requires { ⌜ noSuchColumn layout (layout .id) ≡ false ⌝ }
+    requires { ⌜ noSuchColumn layout column ≡ false ⌝ }
+    ensures { λ r. ⌜ r ≡ foundOf (now (file .entry)) layout start end row column ⌝ }
+{
+    if layout.width == 0 {
+        return find_by_walk(file, layout, start, end, row, column);
+    }
+    find_by_offset(file, layout, start, end, row, column)
+}
+
+// A row in which no fields can be looked for: 10 outside the file, 9 where the layout has no id column.
+fn judge_place(file: &[u8], layout: Layout, start: usize, end: usize, row: usize) -> Refusal
+    ensures { λ r. ⌜ r ≡ placeRefusal (now (file .entry)) layout start end row ⌝ }
+{
+    if lies_outside(file, start, end) {
+        return refusal::refuse(WRONG_ROW, row);
+    }
+    if no_such(count_columns(layout), layout.id) {
+        return refusal::refuse(WRONG_ID, row);
+    }
+    refusal::no_refusal()
+}
+
+// One row: 10 and 11 by column, 10 where it is not used up, then 9.
+pub fn judge_row(file: &[u8], layout: Layout, start: usize, end: usize, row: usize) -> Refusal
+    ensures { λ r. ⌜ r ≡ rowRefusal (now (file .entry)) layout start end row ⌝ }
+{
+    let early = judge_place(file, layout, start, end, row);
+    if early.number != 0 {
+        return early;
+    }
+    let found = find_column(file, layout, start, end, row, layout.id);
+    found.refusal
+}
+
+// ---- where rows lie
+
+// The end of row k by its entry; of row 0, where row 1 starts.
+fn end_at(index: &[u8], layout: Layout, k: usize) -> usize
+    requires { ⌜ k < 4294967296 ⌝ }
+    ensures { λ r. ⌜ r ≡ endAt layout (now (index .entry)) k ⌝ }
+{
+    if k == 0 {
+        return layout.start as usize;
+    }
+    let order = layout.order;
+    let at = 8 * k;
+    number::read4(index, at, order) as usize + number::read4(index, at + 4, order) as usize
+}
+
+// The end of row k, and the start of row k + 1.
+fn bound_of(index: &[u8], layout: Layout, k: usize) -> usize
+    requires { ⌜ k ≤ mostRows ⌝ }
+    ensures { λ r. ⌜ r ≡ boundOf layout (now (index .entry)) k ⌝ }
+{
+    if layout.width == 0 {
+        return end_at(index, layout, k);
+    }
+    layout.start as usize + layout.width as usize * k
+}
+
+// The end of row k, and the start of row k + 1; past the millionth row, its end.
+pub fn row_bound(index: &[u8], layout: Layout, k: usize) -> usize
+    ensures { λ r. ⌜ r ≡ boundOf layout (now (index .entry)) (min k mostRows) ⌝ }
+{
+    bound_of(index, layout, lesser(k, MOST_ROWS))
+}
+
+// Row i of a table, judged: where it lies.
+pub fn read_row(file: &[u8], index: &[u8], table: Table, row: usize) -> Row
+    ensures { λ r. ⌜ r ≡ rowOf (now (file .entry)) (now (index .entry)) table row ⌝ }
+{
+    if no_such(lesser(table.rows, MOST_ROWS), row) {
+        return Row::Refused(refusal::refuse(NO_SUCH, row));
+    }
+    let layout = table.layout;
+    let start = bound_of(index, layout, row - 1);
+    let end = bound_of(index, layout, row);
+    let judged = judge_row(file, layout, start, end, row);
+    if judged.number == 0 {
+        return Row::Between(start, end);
+    }
+    Row::Refused(judged)
 }
