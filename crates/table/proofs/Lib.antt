@@ -7,3 +7,4 @@ pub mod RowsPartition
 pub mod SlotLaws
 pub mod FoundLaws
 pub mod OpeningLaws
+pub mod FieldExactly

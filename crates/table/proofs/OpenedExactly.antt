@@ -27,6 +27,7 @@ use Rattle.header.proofs.LayoutMeans.{laid-out}
 use Rattle.table.specs.declared.Table.{Table}
 use Rattle.table.specs.Opening.{mostRows, needsIndex, entriesSaid, headerSize, offsetAt, lengthAt, endAt, rowsSaid, tableRefusal, tableOf, noTable, openedOf}
 use Rattle.table.specs.Words.{layoutOf, NoneVaries, SomeVaries, FixedBody, IndexedBody, Opens, Test, header-accepted, index-there, rows-few, whole-rows, index-head, entries, last-end, OneWidth, NoWidth, entriesOf, rowsIn, Holds, RefusedWith}
+use Rattle.table.proofs.OpeningLaws.{end-first, end-entry}
 use Rattle.table.proofs.OpeningInOrder.{all-hold-exactly, refused-exactly-when}
 
 -- ---- rows have no one width exactly where a column has `*` or type K
@@ -67,16 +68,6 @@ module _ (file : List ℕ) (h : Reading) (a : AcceptedHeader file h) where
   pub one-width-exactly : OneWidth file ↔ NoneVaries h
   one-width-exactly = (λ w. ⊎-elim (λ s. absurd (omega (arith, some-varies-no-width s))) (λ f. f) some-or-none-varies, none-varies-one-width)
 
--- where row k ends by its entry
-pub end-at : (l : Layout) (index : List ℕ) (k : ℕ) → 0 < k → endAt l index k ≡ offsetAt l index k + lengthAt l index k
-unfolding endAt
-end-at l index zero p = absurd (omega arith)
-end-at l index (suc k) p = refl
-
-pub end-at-0 : (l : Layout) (index : List ℕ) → endAt l index 0 ≡ l .start
-unfolding endAt
-end-at-0 l index = refl
-
 module _ (file index : List ℕ) (most : ℕ) where
   abbrev l : Layout
   l = layoutOf file
@@ -106,10 +97,10 @@ module _ (file index : List ℕ) (most : ℕ) where
         count = refl;
         long = all index-head w .0;
         header-size = all index-head w .1;
-        row-1 = λ p. starts 1 (omega arith, p) ∙ end-at-0 l index;
-        next-row = λ k p q. starts (suc k) (omega arith, q) ∙ end-at l index k p;
-        last-row = λ p. sym (end-at l index n p) ∙ all last-end w;
-        no-row = λ e. sym (end-at-0 l index) ∙ ap (endAt l index) (sym e) ∙ all last-end w;
+        row-1 = λ p. starts 1 (omega arith, p) ∙ sym (end-first l index 0 refl);
+        next-row = λ k p q. starts (suc k) (omega arith, q) ∙ sym (end-entry l index k (λ z. omega arith));
+        last-row = λ p. end-entry l index n (λ z. omega arith) ∙ all last-end w;
+        no-row = λ e. end-first l index n e ∙ all last-end w;
       }
 
   opens : ((x : Test) → Holds file index most x) → (h : Reading) × (n : ℕ) × Opens file index most h n
@@ -139,12 +130,12 @@ module _ (file index : List ℕ) (most : ℕ) where
 
     pub starts-right : NoWidth file → (k : ℕ) → In n k → offsetAt l index k ≡ endAt l index (pred k)
     starts-right w zero i = absurd (omega (arith, i .0))
-    starts-right w (suc zero) i = body-indexed w .row-1 (omega (arith, i .1)) ∙ sym (end-at-0 l index)
-    starts-right w (suc (suc k)) i = body-indexed w .next-row (suc k) (omega arith) (i .1) ∙ sym (end-at l index (suc k) (omega arith))
+    starts-right w (suc zero) i = body-indexed w .row-1 (omega (arith, i .1)) ∙ end-first l index 0 refl
+    starts-right w (suc (suc k)) i = body-indexed w .next-row (suc k) (omega arith) (i .1) ∙ end-entry l index (suc k) (λ z. omega arith)
 
     pub ends-right : NoWidth file → (m : ℕ) → n ≡ m → endAt l index m ≡ length file
-    ends-right w zero e = end-at-0 l index ∙ body-indexed w .no-row e
-    ends-right w (suc m) e = end-at l index (suc m) (omega arith) ∙ rw e at (body-indexed w .last-row (omega arith))
+    ends-right w zero e = sym (end-first l index 0 refl) ∙ body-indexed w .no-row e
+    ends-right w (suc m) e = sym (end-entry l index (suc m) (λ z. omega arith)) ∙ rw e at (body-indexed w .last-row (omega arith))
 
     all-hold : (x : Test) → Holds file index most x
     all-hold header-accepted = (h, o .header)

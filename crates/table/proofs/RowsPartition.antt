@@ -15,7 +15,8 @@ use Rattle.header.specs.declared.Layout.{Layout}
 use Rattle.table.specs.Opening.{offsetAt, lengthAt, endAt}
 use Rattle.table.specs.Rows.{boundOf}
 use Rattle.table.specs.Words.{layoutOf, FixedBody, IndexedBody, Opens, OneWidth, NoWidth}
-use Rattle.table.proofs.OpenedExactly.{no-width-exactly, one-width-exactly, end-at, end-at-0, starts-right, ends-right}
+use Rattle.table.proofs.OpeningLaws.{end-first, end-entry}
+use Rattle.table.proofs.OpenedExactly.{no-width-exactly, one-width-exactly, starts-right, ends-right}
 
 -- where row k ends: k widths past the start, or by its entry
 pub bound-fixed : (l : Layout) (index : List ℕ) (k : ℕ) → 0 < l .width → boundOf l index k ≡ l .start + l .width * k
@@ -40,10 +41,10 @@ module _ (file index : List ℕ) (most : ℕ) (h : Reading) (n : ℕ) (o : Opens
   indexed-partition : NoWidth file → Partition (boundOf l index) n (l .start) (length file)
   indexed-partition w =
       partition (boundOf l index) n (l .start) (length file)
-      (bound-indexed l index 0 w ∙ end-at-0 l index)
+      (bound-indexed l index 0 w ∙ sym (end-first l index 0 refl))
       (λ k i.
       rw (bound-indexed l index k w, bound-indexed l index (suc k) w)
-      (omega (arith, end-at l index (suc k) (omega arith), starts-right file index most h n o w (suc k) (omega arith, i))))
+      (omega (arith, end-entry l index (suc k) (λ z. omega arith), starts-right file index most h n o w (suc k) (omega arith, i))))
       (bound-indexed l index n w ∙ ends-right file index most h n o w n refl)
 
   -- row i is the part from `boundOf .. (i - 1)` to `boundOf .. i`

@@ -1,15 +1,23 @@
--- "Rows and index" in the paper's words: when a table opens, and what each refusal of the opening says.
+-- "Rows and index" in the paper's words: when a table opens, what each refusal of the opening says, and when a row is right.
 use mathlib.Core.Path.{_≡_}
 use mathlib.Core.Logic.{_⊎_}
+use mathlib.Core.Bool.{true, false}
 use mathlib.Core.List.{List, []}
-use Prim.Native.Nat.{ℕ, suc, pred, min, _+_, _*_, _≤_, _<_}
-use lib.ListN.{length}
+use Prim.Native.Nat.{ℕ, suc, pred, min, _+_, _-_, _*_, _≤_, _<_}
+use lib.ListN.{length, take, drop}
 use Rattle.laws.specs.Lowest.{In, Each, LowestFailing}
+use Rattle.number.specs.declared.Order.{Order}
+use Rattle.number.specs.Bytes.{number}
+use Rattle.field.specs.declared.FieldType.the-variants.{Triplet}
+use Rattle.field.specs.Fields.{widthOf}
+use Rattle.triplet.specs.declared.Ids.{Ids}
+use Rattle.triplet.specs.Words.{BeginsWith}
 use Rattle.grammar.specs.Words.{Reading}
+use Rattle.header.specs.declared.ColumnLayout.{ColumnLayout}
 use Rattle.header.specs.declared.Layout.{Layout}
 use Rattle.header.specs.Layouts.{headerOf}
 use Rattle.header.specs.Words.{columnAt, AcceptedHeader}
-use Rattle.header.specs.LayoutWords.{Varies}
+use Rattle.header.specs.LayoutWords.{Varies, layoutAt}
 use Rattle.header.specs.Refusals as header
 use Rattle.table.specs.Opening.{mostRows, entriesSaid, headerSize, offsetAt, lengthAt, endAt, rowsSaid}
 
@@ -131,3 +139,43 @@ pub record RefusedWith (file index : List ℕ) (most n p : ℕ) : Type 0 where
   pub test : Test
   pub earlier : (x : Test) → rank x < rank test → Holds file index most x
   pub fails : FailsAt file index most test n p
+
+-- ---- when a row is right: "Row i must have id i and use exactly its bytes."
+
+-- a field of column c that starts at the place `at`, in a row that ends at `end`, ends at p.
+-- "K triplet, 1 to 13" bytes: the row goes on there with a triplet of so many
+pub record TripletEnds (o : Order) (s : List ℕ) (end : ℕ) (c : ColumnLayout) (at p : ℕ) : Type 0 where
+  pub kind : c .kind ≡ Triplet
+  pub ids : Ids
+  pub bytes : ℕ
+  pub begins : BeginsWith o (take (end - at) (drop at s)) ids bytes
+  pub ends : p ≡ at + bytes
+
+-- "A `*` field begins with an unsigned four-byte count of its elements; zero is allowed."
+pub record StarEnds (o : Order) (s : List ℕ) (end : ℕ) (c : ColumnLayout) (at p : ℕ) : Type 0 where
+  pub kind : c .kind ≡ Triplet → ⊥
+  pub star : c .star ≡ true
+  pub ends : p ≡ at + 4 + number o s at 4 * widthOf (c .kind)
+  pub inside : p ≤ end
+
+-- any other field has the bytes of its count of elements, which the layout keeps
+pub record FixedEnds (end : ℕ) (c : ColumnLayout) (at p : ℕ) : Type 0 where
+  pub kind : c .kind ≡ Triplet → ⊥
+  pub no-star : c .star ≡ false
+  pub ends : p ≡ at + c .size
+  pub inside : p ≤ end
+
+abbrev pub FieldEnds : Order → List ℕ → ℕ → ColumnLayout → ℕ → ℕ → Type 0
+FieldEnds o s end c at p = TripletEnds o s end c at p ⊎ (StarEnds o s end c at p ⊎ FixedEnds end c at p)
+
+-- the fields of a row from start to end, read in column order: column k starts at `place k`. They use exactly the row's bytes
+pub record Fields (s : List ℕ) (l : Layout) (start end : ℕ) (place : ℕ → ℕ) : Type 0 where
+  pub first : place 1 ≡ start
+  pub next : Each (l .columns) (λ k. FieldEnds (l .order) s end (layoutAt l k) (place k) (place (suc k)))
+  pub last : place (suc (l .columns)) ≡ end
+
+-- A ROW i from start to end IS RIGHT
+pub record RowRight (s : List ℕ) (l : Layout) (start end i : ℕ) : Type 0 where
+  pub place : ℕ → ℕ
+  pub fields : Fields s l start end place
+  pub id : number (l .order) s (place (l .id)) 4 ≡ i
