@@ -8,3 +8,4 @@ pub mod SlotLaws
 pub mod FoundLaws
 pub mod OpeningLaws
 pub mod FieldExactly
+pub mod RowExactly

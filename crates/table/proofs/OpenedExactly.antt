@@ -35,10 +35,10 @@ module _ (file : List ℕ) (h : Reading) (a : AcceptedHeader file h) where
   abbrev means : LaidOut file h (layoutOf file)
   means = laid-out file h a
 
-  in-layout : (k : ℕ) → In (length (h .columns)) k → In (layoutOf file .columns) k
+  pub in-layout : (k : ℕ) → In (length (h .columns)) k → In (layoutOf file .columns) k
   in-layout k i = (i .0, omega (arith, i .1, means .columns))
 
-  in-reading : (k : ℕ) → In (layoutOf file .columns) k → In (length (h .columns)) k
+  pub in-reading : (k : ℕ) → In (layoutOf file .columns) k → In (length (h .columns)) k
   in-reading k i = (i .0, omega (arith, i .1, means .columns))
 
   told : (k : ℕ) → In (length (h .columns)) k → Varies (columnAt h k) ⊎ (Varies (columnAt h k) → ⊥)
