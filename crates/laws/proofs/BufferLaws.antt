@@ -103,3 +103,9 @@ oneTo-next f d n k x v h q e =
     let m : n - k ≡ suc (n - suc k) = omega arith in
     let r = replicate (n - suc k) x in
     rw (add-one k, q, m, e) (set-at (oneTo f k) x r (f (suc k)) k (length-oneTo f k) ∙ sym (append-assoc (oneTo f k) (f (suc k) ∷ []) r))
+
+-- zeros are 0 everywhere
+pub getD-zeros : (n i : ℕ) → _≡_ {A = ℕ} (getD (replicate n 0) i 0) 0
+getD-zeros zero i = refl
+getD-zeros (suc n) zero = refl
+getD-zeros (suc n) (suc i) = getD-zeros n i

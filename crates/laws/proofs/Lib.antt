@@ -12,3 +12,4 @@ pub mod ForemostLaws
 pub mod PlaceLaws
 pub mod EntryLaws
 pub mod LeastLaws
+pub mod PartitionLaws

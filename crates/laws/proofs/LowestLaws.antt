@@ -8,7 +8,7 @@ use native.Mathlib.Nat.{le-refl}
 use native.Mathlib.Numerals.{add-one}
 use native.Mathlib.Decide.{decLe}
 use native.Mathlib.Omega.{arith}
-use Rattle.laws.specs.Lowest.{firstNonzero, lowest, None, At}
+use Rattle.laws.specs.Lowest.{firstNonzero, lowest, None, At, In, Each}
 
 -- cases of a test, each with its equation
 pub bool-cases : {C : Type 0} (b : Bool) → (b ≡ true → C) → (b ≡ false → C) → C
@@ -111,3 +111,15 @@ lowest-shift p n e =
     (λ k a b. by-cases (decLe k 1) (λ c. let q : k ≡ 1 = omega arith in rw q e) (λ c. let q : k ≡ suc (k - 1) = omega arith in ap p q ∙ h .below (k - 1) (omega arith) (omega arith)))
     ∙ sym (shifted-pos _ (h .pos)))
     (lowest-cases (λ j. p (suc j)) n)
+
+-- ---- what can be told of each of 1..n: it holds of one, or of none
+pub some-or-none : (P : ℕ → Type 0) (n : ℕ) → ((k : ℕ) → In n k → P k ⊎ (P k → ⊥)) → ((k : ℕ) × In n k × P k) ⊎ Each n (λ k. P k → ⊥)
+some-or-none P zero d = inr (λ k i. absurd (omega (arith, i .0, i .1)))
+some-or-none P (suc n) d =
+    ⊎-elim
+    (λ w. inl (w .0, (w .1 .0, omega (arith, w .1 .1)), w .2))
+    (λ w.
+    ⊎-elim (λ p. inl (suc n, (omega arith, le-refl (suc n)), p))
+    (λ p. inr (λ k i. by-cases (decLe k n) (λ c. w k (i .0, c)) (λ c. let q : k ≡ suc n = omega (arith, i .1) in rw q p)))
+    (d (suc n) (omega arith, le-refl (suc n))))
+    (some-or-none P n (λ k i. d k (i .0, omega (arith, i .1))))

@@ -28,6 +28,13 @@ sum-part g (suc n) k a b =
     by-cases (decLe k n) (λ c. omega (arith, sum-part g n k a c))
     (λ c. let e : k ≡ suc n = omega arith in rw e (omega arith))
 
+-- the first k of them are not more than all
+pub sum-first : (g : ℕ → ℕ) (n k : ℕ) → k ≤ n → sum g k ≤ sum g n
+sum-first g zero k b = let e : k ≡ 0 = omega arith in rw e (le-refl 0)
+sum-first g (suc n) k b =
+    by-cases (decLe k n) (λ c. omega (arith, sum-first g n k c))
+    (λ c. let e : k ≡ suc n = omega arith in rw e (le-refl (sum g (suc n))))
+
 pub sum-ones : (n : ℕ) → sum (λ k. 1) n ≡ n
 sum-ones zero = refl
 sum-ones (suc n) = omega (arith, sum-ones n)

@@ -53,6 +53,21 @@ pub neither-true : (x y : Bool) → cond x false y ≡ true → (x ≡ false) ×
 neither-true true y e = absurd (true≢false (sym e))
 neither-true false y e = (refl, e)
 
+-- neither, where either one decides
+pub both-false : (x y : Bool) → cond x true y ≡ false → (x ≡ false) × (y ≡ false)
+both-false true y e = absurd (true≢false e)
+both-false false y e = (refl, e)
+
+-- nothing is wrong: the first holds, and the second test, asked only then, finds nothing wrong; and where the second is asked only if
+-- the first does not hold
+pub wrong-unless : {P Q : Type 0} (x y : Bool) → (x ≡ true) ↔ P → (y ≡ false) ↔ Q → (cond x y true ≡ false) ↔ (P × Q)
+wrong-unless true y f g = (λ e. (f .0 refl, g .0 e), λ h. g .1 (h .1))
+wrong-unless false y f g = (λ e. absurd (true≢false e), λ h. absurd (true≢false (sym (f .1 (h .0)))))
+
+pub wrong-else : {P Q : Type 0} (x y : Bool) → (x ≡ true) ↔ P → (y ≡ false) ↔ Q → (cond x false y ≡ false) ↔ (P ⊎ Q)
+wrong-else true y f g = (λ e. inl (f .0 refl), λ h. refl)
+wrong-else false y f g = (λ e. inr (g .0 e), ⊎-elim (λ p. absurd (true≢false (sym (f .1 p)))) (g .1))
+
 pub cond-same : (x y : Bool) → cond x y y ≡ y
 cond-same true y = refl
 cond-same false y = refl

@@ -2,7 +2,7 @@
 -- at the lowest row that fails. Assumes nothing.
 use mathlib.Core.Path.{_≡_, refl, sym, ap, subst, _∙_}
 use mathlib.Core.Logic.{_↔_, by-cases, _⊎_, inl, inr, ⊎-elim}
-use mathlib.Core.Bool.{Bool, true, false, true≢false}
+use mathlib.Core.Bool.{Bool, true, false, cond, true≢false}
 use mathlib.Core.List.{List, [], _∷_}
 use Prim.Native.Nat.{ℕ, zero, suc, _+_, _<_}
 use native.Mathlib.Decide.{decLt}
@@ -13,7 +13,7 @@ use lib.ListN.{length}
 use Rattle.laws.specs.Lowest.{lowest, In, Each, LowestFailing}
 use Rattle.laws.proofs.LowestLaws.{lowest-cases, lowest-none, lowest-zero}
 use Rattle.refusal.specs.declared.Refusal.{Refusal}
-use Rattle.refusal.specs.Order.{refusal, refusedIf, located, refuses, atRow, lowestOf, firstOf}
+use Rattle.refusal.specs.Order.{refusal, fine, refusedIf, located, refuses, atRow, lowestOf, firstOf}
 use Rattle.refusal.proofs.OrderLaws.{first-passes, first-refuses, located-zero, located-at}
 
 -- nothing is refused and what was asked holds; or a number and a place are, and it fails so
@@ -164,3 +164,21 @@ module _ (P : ℕ → Type 0) (n : ℕ) where
 pub judged-once : (b : Bool) (m p : ℕ) (P : Type 0) (Q : Type 0) → (m ≡ 0 → ⊥) → (b ≡ false → P) → (b ≡ true → Q) → Judged (refusedIf b m p) P (λ x y. (x ≡ m) × (y ≡ p) × Q)
 judged-once true m p P Q some f g = inr (some, (refl, refl, g refl))
 judged-once false m p P Q some f g = inl (refl, f refl)
+
+-- a test that is made only where b says G
+pub judged-where : (b : Bool) (q : Refusal) (G P : Type 0) (F K : ℕ → ℕ → Type 0) → (b ≡ true) ↔ G → ((n p : ℕ) → G → F n p → K n p)
+    → (G → Judged q P F) → Judged (cond b q fine) (G → P) K
+judged-where true q G P F K e k j = let g = e .0 refl in ⊎-elim (λ h. inl (h .0, λ x. h .1)) (λ h. inr (h .0, k (q .number) (q .place) g (h .1))) (j g)
+judged-where false q G P F K e k j = inl (refl, λ g. absurd (true≢false (sym (e .1 g))))
+
+-- a test of one thing that is made only where b says G: it asks P
+module _ (b : Bool) (G : Type 0) (says : (b ≡ true) ↔ G) where
+  pub asked-where : (c : Bool) (m p : ℕ) (P Q : Type 0) → (m ≡ 0 → ⊥) → (G → (c ≡ false → P) × (c ≡ true → Q))
+      → Judged (cond b (refusedIf c m p) fine) (G → P) (λ x y. (x ≡ m) × (y ≡ p) × G × Q)
+  asked-where c m p P Q some f =
+      judged-where b (refusedIf c m p) G P (λ x y. (x ≡ m) × (y ≡ p) × Q) (λ x y. (x ≡ m) × (y ≡ p) × G × Q) says (λ x y g q. (q .0, q .1, g, q .2))
+      (λ g. judged-once c m p P Q some (f g .0) (f g .1))
+
+  pub right-where : (c : Bool) (m p : ℕ) (P : Type 0) → (m ≡ 0 → ⊥) → (G → (c ≡ false) ↔ P)
+      → Judged (cond b (refusedIf c m p) fine) (G → P) (λ x y. (x ≡ m) × (y ≡ p) × G × (P → ⊥))
+  right-where c m p P some f = asked-where c m p P (P → ⊥) some (λ g. (f g .0, λ e h. true≢false (sym e ∙ f g .1 h)))

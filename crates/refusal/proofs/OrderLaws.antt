@@ -1,7 +1,7 @@
 -- The laws of tests in order: what a loop over rows needs, and what the first refusal of a list says. Assumes nothing.
 use mathlib.Core.Path.{_≡_, refl, sym, ap, _∙_}
 use mathlib.Core.Bool.{Bool, true, false, true≢false}
-use mathlib.Core.List.{List, [], _∷_, _++_}
+use mathlib.Core.List.{List, [], _∷_, _++_, append-nil}
 use Prim.Native.Nat.{ℕ, zero, suc, _+_, _≤_, _<_}
 use native.Mathlib.Omega.{arith}
 use native.Mathlib.Numerals.{add-one}
@@ -202,3 +202,17 @@ refused-first (a ∷ l) r e n =
 
 pub first-refused : (l : List Refusal) (r : Refusal) → RefusedFirst l r → firstOf l ≡ r
 first-refused l r w = ap firstOf (w .stands) ∙ first-is (w .earlier) (w .later) r (w .passed) (w .refused)
+
+-- ---- a list of tests within a list of tests: they are asked one after the other
+pub first-joined : (a b c : Refusal) → first (first a b) c ≡ first a (first b c)
+first-joined a b c =
+    bool-cases (eqb (a .number) 0)
+    (λ t. let z = eqb-true (a .number) 0 t in rw (first-passes a b z, first-passes a (first b c) z))
+    (λ t. let z = eqb-false (a .number) 0 t in rw (first-refuses a b z, first-refuses a (first b c) z) (first-refuses a c z))
+
+pub first-append : (l m : List Refusal) → firstOf (l ++ m) ≡ first (firstOf l) (firstOf m)
+first-append [] m = sym (first-passes fine (firstOf m) refl)
+first-append (a ∷ l) m = ap (first a) (first-append l m) ∙ sym (first-joined a (firstOf l) (firstOf m))
+
+pub first-within : (l : List Refusal) → firstOf (firstOf l ∷ []) ≡ firstOf l
+first-within l = sym (first-append l []) ∙ ap firstOf (append-nil l)

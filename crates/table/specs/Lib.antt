@@ -1,3 +1,4 @@
 pub mod Opening
 pub mod Rows
 pub mod Values
+pub mod Words

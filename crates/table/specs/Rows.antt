@@ -5,7 +5,7 @@ use Prim.Native.Nat.{ℕ, zero, suc, pred, min, _+_, _-_, _*_}
 use lib.Dec.{eqb, ltb, leb}
 use lib.ListN.{length, getD, set, take, drop, replicate}
 use Rattle.refusal.specs.declared.Refusal.{Refusal}
-use Rattle.refusal.specs.Order.{refusal, fine, refusedIf, firstOf}
+use Rattle.refusal.specs.Order.{refusal, fine, refusedIf, first}
 use Rattle.number.specs.declared.Order.{Order}
 use Rattle.number.specs.Bytes.{number}
 use Rattle.field.specs.declared.FieldType.{FieldType}
@@ -21,6 +21,7 @@ use Rattle.table.specs.declared.Table.{Table}
 use Rattle.table.specs.declared.Reach.{Reach}
 use Rattle.table.specs.declared.Reach.the-variants.{At, Short, Cut}
 use Rattle.table.specs.declared.Places.{Places}
+use Rattle.table.specs.declared.Found.{Found}
 use Rattle.table.specs.declared.Row.{Row}
 use Rattle.table.specs.declared.Row.the-variants.{Between, Refused}
 use Rattle.table.specs.Opening.{mostRows, needsIndex, endAt}
@@ -32,6 +33,16 @@ rowsOf t = min (t .rows) mostRows
 abbrev pub columnsOf : Layout → ℕ
 columnsOf l = min (l .columns) mostColumns
 
+-- "13: no such row, ring or column": not one of 1..n
+abbrev pub noSuch : ℕ → ℕ → Bool
+noSuch n k = cond (eqb k 0) true (ltb n k)
+
+abbrev pub noSuchRow : Table → ℕ → Bool
+noSuchRow t i = noSuch (rowsOf t) i
+
+abbrev pub noSuchColumn : Layout → ℕ → Bool
+noSuchColumn l k = noSuch (columnsOf l) k
+
 -- column k of a layout, from 1
 abbrev pub columnAt : Layout → ℕ → ColumnLayout
 columnAt l k = getD (l .cols) (pred k) blankColumn
@@ -39,6 +50,10 @@ columnAt l k = getD (l .cols) (pred k) blankColumn
 -- where row k ends, and row k + 1 starts: k widths on, or by its entry
 unfoldable pub boundOf : Layout → List ℕ → ℕ → ℕ
 boundOf l index k = cond (eqb (l .width) 0) (endAt l index k) (l .start + l .width * k)
+
+-- a row that ends past the file or before it starts; no opened table has one
+abbrev pub outside : List ℕ → ℕ → ℕ → Bool
+outside s start end = cond (ltb (length s) end) true (ltb end start)
 
 -- ---- fields
 
@@ -98,9 +113,21 @@ abbrev pub placesKept : List ℕ → Layout → ℕ → ℕ → List ℕ → ℕ
 placesKept s l start end slots zero = noPlaces
 placesKept s l start end slots (suc n) = keep (placesKept s l start end slots n) slots (suc n) (reach s l start end n)
 
+-- past the columns 1..n, with the places kept
+unfoldable pub walked : List ℕ → Layout → ℕ → ℕ → List ℕ → ℕ → Places
+walked s l start end slots n = record { reach = reach s l start end n; at = placesKept s l start end slots n }
+
+-- the whole row; one outside the file is too short for its fields
 unfoldable pub placesOf : List ℕ → Layout → ℕ → ℕ → List ℕ → Places
 placesOf s l start end slots =
-    record { reach = reach s l start end (columnsOf l); at = placesKept s l start end slots (columnsOf l) }
+    cond (outside s start end) (record { reach = Short; at = noPlaces }) (walked s l start end slots (columnsOf l))
+
+-- the slots of a walk that looks for the id column and for column k, and the place that it kept for a column
+abbrev pub slotsFor : ℕ → ℕ → List ℕ
+slotsFor id k = set (set (replicate mostColumns 0) (id - 1) 1) (k - 1) 2
+
+abbrev pub keptFor : List ℕ → List ℕ → ℕ → ℕ
+keptFor at slots k = getD at (slotOf slots k) 0
 
 -- ---- the judgement
 
@@ -117,27 +144,40 @@ usedUp (At p) end i rest = cond (eqb p end) rest (refusal 10 i)
 usedUp Short end i rest = refusal 10 i
 usedUp (Cut q) end i rest = refusal 11 q
 
--- where column k starts in the row: by its offset where all rows have one width, else past the fields before it
+-- where column k starts in the row: by its offset where all rows have one width (within the row in any case), else past the fields
+-- before it
+abbrev pub offsetPlace : Layout → ℕ → ℕ → ℕ → ℕ
+offsetPlace l start end k = min (start + columnAt l k .offset) end
+
 unfoldable pub columnPlace : List ℕ → Layout → ℕ → ℕ → ℕ → ℕ
-columnPlace s l start end k = cond (needsIndex l) (placeOfColumn s l start end k) (start + columnAt l k .offset)
+columnPlace s l start end k = cond (needsIndex l) (placeOfColumn s l start end k) (offsetPlace l start end k)
 
--- row i lies from start to end. A row of fixed width has its fields' bytes by the opening: only its id is left to judge
-unfoldable pub rowRefusal : List ℕ → Layout → ℕ → ℕ → ℕ → Refusal
-rowRefusal s l start end i =
-    cond (ltb (length s) end) (refusal 10 i)
-    (cond (ltb end start) (refusal 10 i)
-    (cond (needsIndex l)
+-- the fields of row i from start to end. A row of fixed width has its fields' bytes by the opening: only its id is left to judge
+unfoldable pub fieldsRefusal : List ℕ → Layout → ℕ → ℕ → ℕ → Refusal
+fieldsRefusal s l start end i =
+    cond (needsIndex l)
     (usedUp (reach s l start end (columnsOf l)) end i (idRefusal s l (columnPlace s l start end (l .id)) i))
-    (idRefusal s l (columnPlace s l start end (l .id)) i)))
+    (idRefusal s l (columnPlace s l start end (l .id)) i)
 
--- "13: no such row"
-abbrev pub noSuchRow : Table → ℕ → Bool
-noSuchRow t i = cond (eqb i 0) true (ltb (rowsOf t) i)
+-- the judgement of the fields, and where column k starts
+unfoldable pub foundOf : List ℕ → Layout → ℕ → ℕ → ℕ → ℕ → Found
+foundOf s l start end i k = record { refusal = fieldsRefusal s l start end i; place = columnPlace s l start end k }
+
+-- a row that no fields can be looked for in: it lies outside the file, or its layout, which no header gave, has no id column
+abbrev pub placeRefusal : List ℕ → Layout → ℕ → ℕ → ℕ → Refusal
+placeRefusal s l start end i = cond (outside s start end) (refusal 10 i) (refusedIf (noSuchColumn l (l .id)) 9 i)
+
+-- THE JUDGEMENT of row i that lies from start to end
+unfoldable pub rowRefusal : List ℕ → Layout → ℕ → ℕ → ℕ → Refusal
+rowRefusal s l start end i = first (placeRefusal s l start end i) (fieldsRefusal s l start end i)
+
+-- where the row lies, unless it is refused
+abbrev pub unlessRefused : Refusal → ℕ → ℕ → Row
+unlessRefused q start end = cond (eqb (q .number) 0) (Between start end) (Refused q)
 
 -- THE ROW i of a table: where it lies, or its refusal
 unfoldable pub rowOf : List ℕ → List ℕ → Table → ℕ → Row
 rowOf file index t i =
     cond (noSuchRow t i) (Refused (refusal 13 i))
-    (cond (eqb (rowRefusal file (t .layout) (boundOf (t .layout) index (pred i)) (boundOf (t .layout) index i) i .number) 0)
-    (Between (boundOf (t .layout) index (pred i)) (boundOf (t .layout) index i))
-    (Refused (rowRefusal file (t .layout) (boundOf (t .layout) index (pred i)) (boundOf (t .layout) index i) i)))
+    (unlessRefused (rowRefusal file (t .layout) (boundOf (t .layout) index (pred i)) (boundOf (t .layout) index i) i)
+    (boundOf (t .layout) index (pred i)) (boundOf (t .layout) index i))

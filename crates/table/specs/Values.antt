@@ -1,7 +1,7 @@
 -- Values: what the field of a column says, by its type; "Text and date are shown as parts of the caller's file, not copied."
 use mathlib.Core.Bool.{Bool, true, false, cond}
 use mathlib.Core.List.{List, []}
-use Prim.Native.Nat.{ℕ, zero, suc, pred, _+_, _-_, _*_}
+use Prim.Native.Nat.{ℕ, min, _+_, _-_, _*_}
 use lib.Dec.{eqb, ltb}
 use lib.ListN.{length, take, drop}
 use Rattle.refusal.specs.declared.Refusal.{Refusal}
@@ -20,7 +20,7 @@ use Rattle.table.specs.declared.Table.{Table}
 use Rattle.table.specs.declared.Row as row
 use Rattle.table.specs.declared.Value.{Value}
 use Rattle.table.specs.declared.Value.the-variants.{Short, ShortNull, Integer, IntegerNull, Float, FloatNull, Double, DoubleNull, Triplet, Text, Date, Coordinates, Empty, Refused}
-use Rattle.table.specs.Rows.{columnsOf, columnAt, columnPlace, rowOf, noSuchRow}
+use Rattle.table.specs.Rows.{columnAt, columnPlace, rowOf, noSuchRow, noSuchColumn}
 
 -- "Null is -32,768 for S, -2,147,483,648 for I, NaN for floats; others have none."
 abbrev pub shortOf : ℕ → Value
@@ -35,9 +35,10 @@ floatOf bits = cond (floatIsNull bits) (FloatNull bits) (Float bits)
 abbrev pub doubleOf : ℕ → Value
 doubleOf bits = cond (doubleIsNull bits) (DoubleNull bits) (Double bits)
 
--- where the elements of a field at p start, and how many bytes they have: a `*` field begins with their count
-abbrev pub elementsStart : ColumnLayout → ℕ → ℕ
-elementsStart c p = cond (c .star) (p + 4) p
+-- where the elements of a field at p start, in a row that ends at `end`, and how many bytes they have: a `*` field begins with
+-- their count
+abbrev pub elementsStart : ColumnLayout → ℕ → ℕ → ℕ
+elementsStart c p end = cond (c .star) (min (p + 4) end) p
 
 abbrev pub elementsBytes : Order → List ℕ → ColumnLayout → ℕ → ℕ
 elementsBytes o s c p = cond (c .star) (number o s p 4 * widthOf (c .kind)) (c .size)
@@ -48,26 +49,22 @@ tripletOfRead (read.the-variants.Refused q) = Refused q
 
 -- the value of the field at p, by the column's type, in a row that ends at `end`
 abbrev pub byType : FieldType → Order → List ℕ → ColumnLayout → ℕ → ℕ → Value
-byType type.Text o s c p end = Text (elementsStart c p) (elementsBytes o s c p)
-byType type.Latin o s c p end = Text (elementsStart c p) (elementsBytes o s c p)
+byType type.Text o s c p end = Text (elementsStart c p end) (elementsBytes o s c p)
+byType type.Latin o s c p end = Text (elementsStart c p end) (elementsBytes o s c p)
 byType type.Float o s c p end = floatOf (number o s p 4)
 byType type.Double o s c p end = doubleOf (number o s p 8)
 byType type.Short o s c p end = shortOf (number o s p 2)
 byType type.Integer o s c p end = integerOf (number o s p 4)
-byType type.ShortPair o s c p end = Coordinates (elementsStart c p) (elementsBytes o s c p)
-byType type.ShortTriple o s c p end = Coordinates (elementsStart c p) (elementsBytes o s c p)
-byType type.DoublePair o s c p end = Coordinates (elementsStart c p) (elementsBytes o s c p)
-byType type.DoubleTriple o s c p end = Coordinates (elementsStart c p) (elementsBytes o s c p)
+byType type.ShortPair o s c p end = Coordinates (elementsStart c p end) (elementsBytes o s c p)
+byType type.ShortTriple o s c p end = Coordinates (elementsStart c p end) (elementsBytes o s c p)
+byType type.DoublePair o s c p end = Coordinates (elementsStart c p end) (elementsBytes o s c p)
+byType type.DoubleTriple o s c p end = Coordinates (elementsStart c p end) (elementsBytes o s c p)
 byType type.Date o s c p end = Date p 20
 byType type.NullField o s c p end = Empty
 byType type.Triplet o s c p end = tripletOfRead (tripletOf o (take (end - p) (drop p s)))
 
 unfoldable pub shown : Order → List ℕ → ColumnLayout → ℕ → ℕ → Value
 shown o s c p end = byType (c .kind) o s c p end
-
--- "13: no such row, ring or column"
-abbrev pub noSuchColumn : Table → ℕ → Bool
-noSuchColumn t k = cond (eqb k 0) true (ltb (columnsOf (t .layout)) k)
 
 abbrev pub inRow : row.Row → (ℕ → ℕ → Value) → Value
 inRow (row.the-variants.Between start end) f = f start end
@@ -77,7 +74,7 @@ inRow (row.the-variants.Refused q) f = Refused q
 unfoldable pub valueOf : List ℕ → List ℕ → Table → ℕ → ℕ → Value
 valueOf file index t i k =
     cond (noSuchRow t i) (Refused (refusal 13 i))
-    (cond (noSuchColumn t k) (Refused (refusal 13 k))
+    (cond (noSuchColumn (t .layout) k) (Refused (refusal 13 k))
     (inRow (rowOf file index t i)
     (λ start end. shown (t .layout .order) file (columnAt (t .layout) k) (columnPlace file (t .layout) start end k) end)))
 

@@ -1,11 +1,40 @@
 // Tables: opened with their lent index, rows found and judged, values handed out.
+ghost use mathlib.Core.Path.{_≡_};
+ghost use mathlib.Core.Bool.{false};
+ghost use Prim.Native.Nat.{min, _+_, _-_, _*_, _≤_, _<_};
+ghost use lib.ListN.{length, getD, set};
+ghost use Rattle.field.specs.Fields.{widest};
+ghost use Rattle.header.specs.Judge.{mostColumns};
+ghost use Rattle.header.specs.Layouts.{blankColumn};
+ghost use Rattle.table.specs.Opening.{mostRows, endAt};
+ghost use Rattle.table.specs.Rows.{columnsOf, noSuch, noSuchColumn, outside, columnAt, boundOf, plainEnd, starEnd, tripletEnd, fieldEnd, walked, slotsFor, keptFor, placesOf, foundOf, idRefusal, usedUp, columnPlace, offsetPlace, fieldsRefusal, placeRefusal, rowRefusal, rowOf};
+
+use field::FieldType;
 use header::Answer;
+use header::ColumnLayout;
 use header::Layout;
+use header::MOST_COLUMNS;
+use number::Order;
 use refusal::Refusal;
 use triplet::Ids;
+use triplet::Triplet;
 
 // "15: over 1,000,000 rows"
 pub const MOST_ROWS: usize = 1000000;
+
+// Refusals: no whole rows, a broken index rule, a wrong id, a row too short or not used up, a bad triplet, no such row or column,
+// too many rows.
+const WRONG_BODY: u32 = 7;
+const WRONG_INDEX: u32 = 8;
+const WRONG_ID: u32 = 9;
+const WRONG_ROW: u32 = 10;
+const BAD_TRIPLET: u32 = 11;
+const NO_SUCH: u32 = 13;
+const TOO_MANY: u32 = 15;
+
+// The slots of the id column and of the column asked for, in a walk that looks for both.
+const ID_SLOT: u8 = 1;
+const COLUMN_SLOT: u8 = 2;
 
 // An opened table: what its header says of the rows, and how many there are. Whoever has one may lend it with any file: rows past
 // the millionth and columns past the 64th are not there.
@@ -32,6 +61,12 @@ pub struct Places {
     pub at: [usize; 8],
 }
 
+// What a row's fields come to: their judgement, and where the column asked for starts.
+struct Found {
+    refusal: Refusal,
+    place: usize,
+}
+
 pub enum Row {
     Between(usize, usize),
     Refused(Refusal),
@@ -53,4 +88,323 @@ pub enum Value {
     Coordinates(usize, usize),
     Empty,
     Refused(Refusal),
+}
+
+// ---- fields
+
+// The lesser of two.
+fn lesser(a: usize, b: usize) -> usize
+    ensures { λ r. ⌜ r ≡ min a b ⌝ }
+{
+    if a <= b { a } else { b }
+}
+
+// Whether k is none of 1..n.
+fn no_such(n: usize, k: usize) -> bool
+    ensures { λ r. ⌜ r ≡ noSuch n k ⌝ }
+{
+    if k == 0 {
+        return true;
+    }
+    n < k
+}
+
+// Whether a row ends past the file or before it starts.
+fn lies_outside(file: &[u8], start: usize, end: usize) -> bool
+    ensures { λ r. ⌜ r ≡ outside (now (file .entry)) start end ⌝ }
+{
+    if file.len() < end {
+        return true;
+    }
+    end < start
+}
+
+// A field of so many bytes.
+fn plain_end(at: usize, end: usize, need: usize) -> Reach
+    requires { ⌜ at ≤ end ⌝ }
+    ensures { λ r. ⌜ r ≡ plainEnd at end need ⌝ }
+{
+    if need <= end - at { Reach::At(at + need) } else { Reach::Short }
+}
+
+// A `*` field: a count of four bytes, then so many elements.
+fn star_end(file: &[u8], at: usize, end: usize, width: usize, order: Order) -> Reach
+    requires { ⌜ (at ≤ end) × (width ≤ widest) ⌝ }
+    ensures { λ r. ⌜ r ≡ starEnd order (now (file .entry)) at end width ⌝ }
+{
+    if end - at < 4 {
+        return Reach::Short;
+    }
+    let n = number::read4(file, at, order);
+    plain_end(at + 4, end, n as usize * width)
+}
+
+// A triplet, which says its own length.
+fn triplet_end(file: &[u8], at: usize, end: usize, order: Order) -> Reach
+    requires { ⌜ (at ≤ end) × (end ≤ length (now file)) ⌝ }
+    ensures { λ r. ⌜ r ≡ tripletEnd order (now (file .entry)) at end ⌝ }
+{
+    match triplet::read(&file[at..end], order) {
+        Triplet::Is(_, n) => Reach::At(at + n),
+        Triplet::Refused(q) => Reach::Cut(q.place),
+    }
+}
+
+// Where the field of a column ends that starts at a place of a row.
+fn field_end(file: &[u8], at: usize, end: usize, column: ColumnLayout, order: Order) -> Reach
+    requires { ⌜ (at ≤ end) × (end ≤ length (now file)) ⌝ }
+    ensures { λ r. ⌜ r ≡ fieldEnd order (now (file .entry)) end column at ⌝ }
+{
+    let kind = column.kind;
+    if kind.is_triplet() {
+        return triplet_end(file, at, end, order);
+    }
+    if column.star {
+        return star_end(file, at, end, kind.width(), order);
+    }
+    plain_end(at, end, column.size as usize)
+}
+
+// ---- the walk over a row
+
+// Keeps a place in a slot; slots past the last keep nothing.
+fn keep_place(at: &mut [usize], slot: usize, place: usize)
+    ensures { λ _. ⌜ now (at .exit) ≡ set (now (at .entry)) slot place ⌝ }
+{
+    if slot < at.len() {
+        at[slot] = place;
+    }
+}
+
+// Past the columns 1..n of a row inside the file, keeping the places asked for.
+fn walk(file: &[u8], layout: Layout, start: usize, end: usize, slots: [u8; 64], n: usize) -> Places
+    requires { ⌜ (start ≤ end) × (end ≤ length (now file)) × (n ≤ mostColumns) ⌝ }
+    ensures { λ r. ⌜ r ≡ walked (now (file .entry)) layout start end slots n ⌝ }
+{
+    let order = layout.order;
+    let mut at = [0usize; 8];
+    let mut p = start;
+    let mut j: usize = 0;
+    while j < n {
+        keep_place(&mut at, slots[j] as usize, p);
+        match field_end(file, p, end, layout.cols[j], order) {
+            Reach::At(q) => {
+                p = q;
+            }
+            Reach::Short => {
+                let stop = Reach::Short;
+                return Places { reach: stop, at: at };
+            }
+            Reach::Cut(q) => {
+                let stop = Reach::Cut(q);
+                return Places { reach: stop, at: at };
+            }
+        }
+        j += 1;
+    }
+    let done = Reach::At(p);
+    Places { reach: done, at: at }
+}
+
+// The columns that a layout has: those past the 64th are not there.
+fn count_columns(layout: Layout) -> usize
+    ensures { λ r. ⌜ r ≡ columnsOf layout ⌝ }
+{
+    lesser(layout.columns, MOST_COLUMNS)
+}
+
+// One walk over a whole row that keeps the places of the columns that `slots` asks for.
+pub fn find_places(file: &[u8], layout: Layout, start: usize, end: usize, slots: [u8; 64]) -> Places
+    ensures { λ r. ⌜ r ≡ placesOf (now (file .entry)) layout start end slots ⌝ }
+{
+    if lies_outside(file, start, end) {
+        let none = Reach::Short;
+        return Places { reach: none, at: [0usize; 8] };
+    }
+    walk(file, layout, start, end, slots, count_columns(layout))
+}
+
+// The slots that ask for the id column and for one other, or for that one alone.
+fn slots_for(id: usize, column: usize) -> [u8; 64]
+    requires { ⌜ (0 < id) × (id ≤ mostColumns) × (0 < column) × (column ≤ mostColumns) ⌝ }
+    ensures { λ r. ⌜ r ≡ slotsFor id column ⌝ }
+{
+    let mut slots = [0u8; 64];
+    slots[id - 1] = ID_SLOT;
+    slots[column - 1] = COLUMN_SLOT;
+    slots
+}
+
+// The place that the walk kept for a column.
+fn kept_place(at: [usize; 8], slots: [u8; 64], column: usize) -> usize
+    requires { ⌜ (0 < column) × (column ≤ mostColumns) × (length at ≡ 8) ⌝ }
+    ensures { λ r. ⌜ r ≡ keptFor at slots column ⌝ }
+{
+    let slot = slots[column - 1] as usize;
+    if slot < 8 { at[slot] } else { 0 }
+}
+
+// ---- the judgement
+
+// 9 where the number at the place of the id is not the row's.
+fn judge_id(file: &[u8], layout: Layout, place: usize, row: usize) -> Refusal
+    ensures { λ r. ⌜ r ≡ idRefusal (now (file .entry)) layout place row ⌝ }
+{
+    let order = layout.order;
+    if number::read4(file, place, order) as usize == row {
+        return refusal::no_refusal();
+    }
+    refusal::refuse(WRONG_ID, row)
+}
+
+// 10 for a row too short or not used up, 11 for a bad triplet, else the judgement of its id.
+fn judge_end(reach: Reach, end: usize, row: usize, id: Refusal) -> Refusal
+    ensures { λ r. ⌜ r ≡ usedUp reach end row id ⌝ }
+{
+    match reach {
+        Reach::At(p) => {
+            if p == end {
+                return id;
+            }
+            return refusal::refuse(WRONG_ROW, row);
+        }
+        Reach::Short => {
+            return refusal::refuse(WRONG_ROW, row);
+        }
+        Reach::Cut(q) => {
+            return refusal::refuse(BAD_TRIPLET, q);
+        }
+    }
+}
+
+// Where a column starts by its offset, in rows of one width: within the row in any case.
+fn offset_place(layout: Layout, start: usize, end: usize, column: usize) -> usize
+    requires { ⌜ (start ≤ end) × (0 < column) × (column ≤ mostColumns) ⌝ }
+    ensures { λ r. ⌜ r ≡ offsetPlace layout start end column ⌝ }
+{
+    let c = layout.cols[column - 1];
+    let offset = c.offset as usize;
+    if offset <= end - start {
+        return start + offset;
+    }
+    end
+}
+
+// A row that must be walked: once, for its id and for the column asked for.
+fn find_by_walk(file: &[u8], layout: Layout, start: usize, end: usize, row: usize, column: usize) -> Found
+    requires { ⌜ layout .width ≡ 0 ⌝ }
+    requires { ⌜ outside (now file) start end ≡ false ⌝ }
+    requires { ⌜ noSuchColumn layout (layout .id) ≡ false ⌝ }
+    requires { ⌜ noSuchColumn layout column ≡ false ⌝ }
+    ensures { λ r. ⌜ r ≡ foundOf (now (file .entry)) layout start end row column ⌝ }
+{
+    let id = layout.id;
+    let slots = slots_for(id, column);
+    let places = walk(file, layout, start, end, slots, count_columns(layout));
+    let at = places.at;
+    let reach = places.reach;
+    let judged = judge_end(reach, end, row, judge_id(file, layout, kept_place(at, slots, id), row));
+    let place = kept_place(at, slots, column);
+    Found { refusal: judged, place: place }
+}
+
+// A row of fixed width: nothing is walked.
+fn find_by_offset(file: &[u8], layout: Layout, start: usize, end: usize, row: usize, column: usize) -> Found
+    requires { ⌜ (layout .width ≡ 0 → ⊥) ⌝ }
+    requires { ⌜ outside (now file) start end ≡ false ⌝ }
+    requires { ⌜ noSuchColumn layout (layout .id) ≡ false ⌝ }
+    requires { ⌜ noSuchColumn layout column ≡ false ⌝ }
+    ensures { λ r. ⌜ r ≡ foundOf (now (file .entry)) layout start end row column ⌝ }
+{
+    let judged = judge_id(file, layout, offset_place(layout, start, end, layout.id), row);
+    let place = offset_place(layout, start, end, column);
+    Found { refusal: judged, place: place }
+}
+
+// The fields of a row: judged, and the column asked for found.
+fn find_column(file: &[u8], layout: Layout, start: usize, end: usize, row: usize, column: usize) -> Found
+    requires { ⌜ outside (now file) start end ≡ false ⌝ }
+    requires { ⌜ noSuchColumn layout (layout .id) ≡ false ⌝ }
+    requires { ⌜ noSuchColumn layout column ≡ false ⌝ }
+    ensures { λ r. ⌜ r ≡ foundOf (now (file .entry)) layout start end row column ⌝ }
+{
+    if layout.width == 0 {
+        return find_by_walk(file, layout, start, end, row, column);
+    }
+    find_by_offset(file, layout, start, end, row, column)
+}
+
+// A row in which no fields can be looked for: 10 outside the file, 9 where the layout has no id column.
+fn judge_place(file: &[u8], layout: Layout, start: usize, end: usize, row: usize) -> Refusal
+    ensures { λ r. ⌜ r ≡ placeRefusal (now (file .entry)) layout start end row ⌝ }
+{
+    if lies_outside(file, start, end) {
+        return refusal::refuse(WRONG_ROW, row);
+    }
+    if no_such(count_columns(layout), layout.id) {
+        return refusal::refuse(WRONG_ID, row);
+    }
+    refusal::no_refusal()
+}
+
+// One row: 10 and 11 by column, 10 where it is not used up, then 9.
+pub fn judge_row(file: &[u8], layout: Layout, start: usize, end: usize, row: usize) -> Refusal
+    ensures { λ r. ⌜ r ≡ rowRefusal (now (file .entry)) layout start end row ⌝ }
+{
+    let early = judge_place(file, layout, start, end, row);
+    if early.number != 0 {
+        return early;
+    }
+    let found = find_column(file, layout, start, end, row, layout.id);
+    found.refusal
+}
+
+// ---- where rows lie
+
+// The end of row k by its entry; of row 0, where row 1 starts.
+fn end_at(index: &[u8], layout: Layout, k: usize) -> usize
+    requires { ⌜ k < 4294967296 ⌝ }
+    ensures { λ r. ⌜ r ≡ endAt layout (now (index .entry)) k ⌝ }
+{
+    if k == 0 {
+        return layout.start as usize;
+    }
+    let order = layout.order;
+    let at = 8 * k;
+    number::read4(index, at, order) as usize + number::read4(index, at + 4, order) as usize
+}
+
+// The end of row k, and the start of row k + 1.
+fn bound_of(index: &[u8], layout: Layout, k: usize) -> usize
+    requires { ⌜ k ≤ mostRows ⌝ }
+    ensures { λ r. ⌜ r ≡ boundOf layout (now (index .entry)) k ⌝ }
+{
+    if layout.width == 0 {
+        return end_at(index, layout, k);
+    }
+    layout.start as usize + layout.width as usize * k
+}
+
+// The end of row k, and the start of row k + 1; past the millionth row, its end.
+pub fn row_bound(index: &[u8], layout: Layout, k: usize) -> usize
+    ensures { λ r. ⌜ r ≡ boundOf layout (now (index .entry)) (min k mostRows) ⌝ }
+{
+    bound_of(index, layout, lesser(k, MOST_ROWS))
+}
+
+// Row i of a table, judged: where it lies.
+pub fn read_row(file: &[u8], index: &[u8], table: Table, row: usize) -> Row
+    ensures { λ r. ⌜ r ≡ rowOf (now (file .entry)) (now (index .entry)) table row ⌝ }
+{
+    if no_such(lesser(table.rows, MOST_ROWS), row) {
+        return Row::Refused(refusal::refuse(NO_SUCH, row));
+    }
+    let layout = table.layout;
+    let start = bound_of(index, layout, row - 1);
+    let end = bound_of(index, layout, row);
+    let judged = judge_row(file, layout, start, end, row);
+    if judged.number == 0 {
+        return Row::Between(start, end);
+    }
+    Row::Refused(judged)
 }

@@ -1,0 +1,48 @@
+-- What the tests before a row's fields say: that the row lies inside the file, that a column or row is there. Assumes nothing.
+use mathlib.Core.Path.{_≡_}
+use mathlib.Core.Bool.{Bool, false}
+use mathlib.Core.List.{List}
+use Prim.Native.Nat.{ℕ, _≤_, _<_}
+use native.Mathlib.Omega.{arith}
+use lib.Dec.{eqb, ltb}
+use lib.ListN.{length}
+use borrow.Author.Tests.{eqb-false, ltb-false}
+use Rattle.laws.proofs.LowestLaws.{bool-cases}
+use Rattle.laws.proofs.TestLaws.{both-false, clash}
+use Rattle.header.specs.declared.Layout.{Layout}
+use Rattle.table.specs.declared.Table.{Table}
+use Rattle.table.specs.Opening.{mostRows}
+use Rattle.table.specs.Rows.{rowsOf, noSuchRow, noSuch, noSuchColumn, outside, placeRefusal}
+
+-- a row that is not outside the file
+pub inside : (s : List ℕ) (start end : ℕ) → outside s start end ≡ false → (start ≤ end) × (end ≤ length s)
+inside s start end e =
+    let b = both-false (ltb (length s) end) (ltb end start) e in
+    (ltb-false end start (b .1), ltb-false (length s) end (b .0))
+
+-- one of 1..n
+pub such : (n k : ℕ) → noSuch n k ≡ false → (0 < k) × (k ≤ n)
+such n k e =
+    let b = both-false (eqb k 0) (ltb n k) e in
+    let z = eqb-false k 0 (b .0) in
+    (omega arith, ltb-false n k (b .1))
+
+-- row i is there
+pub row-there : (t : Table) (n i : ℕ) (b : Bool) → n ≡ rowsOf t → b ≡ noSuch n i → b ≡ false → (noSuchRow t i ≡ false) × (0 < i) × (i ≤ mostRows)
+row-there t n i b e f g =
+    let h : noSuchRow t i ≡ false = rw (← e, ← f) g in
+    let k = such (rowsOf t) i h in
+    (h, k .0, omega (arith, k .1))
+
+-- fields can be looked for
+pub place-fine : (s : List ℕ) (l : Layout) (start end i : ℕ) → placeRefusal s l start end i .number ≡ 0
+    → (outside s start end ≡ false) × (noSuchColumn l (l .id) ≡ false)
+place-fine s l start end i e =
+    bool-cases (outside s start end)
+    (λ t. clash (ten (rw t at e)))
+    (λ t. bool-cases (noSuchColumn l (l .id)) (λ u. clash (nine (rw (t, u) at e))) (λ u. (t, u)))
+  where
+    ten : _≡_ {A = ℕ} 10 0 → _≡_ {A = ℕ} 0 1
+    ten e = omega arith
+    nine : _≡_ {A = ℕ} 9 0 → _≡_ {A = ℕ} 0 1
+    nine e = omega arith
