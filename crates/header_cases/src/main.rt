@@ -1,0 +1,220 @@
+// Runs the cases of data/cases, data/long and data/longer over the header: for each its label and the answer; for an accepted one
+// what rows need of it, and each step through its columns; then a step at the place where these ended, another at a place that
+// the case names, and where a column name that it gives is found. A case is a field of four fields: the label, the table file,
+// the place (8 bytes) and the name.
+ghost use Prim.Native.Nat.{_≤_};
+use header::Answer;
+use header::ColumnLayout;
+use header::Definition;
+use header::Layout;
+use header::MOST_COLUMNS;
+use header::Span;
+use header::Step;
+use libc::STDOUT_FILENO;
+use number::Order;
+use refusal::Refusal;
+
+fn say(text: &[u8]) {
+    io::write_all(STDOUT_FILENO, text);
+}
+
+fn say_number(n: u64) {
+    io::print_decimal(STDOUT_FILENO, n);
+}
+
+fn say_refusal(bad: Refusal) {
+    say(b"refused ");
+    say_number(bad.number as u64);
+    say(b" at ");
+    say_number(bad.place as u64);
+}
+
+fn say_letter(b: u8) {
+    let text = [b; 1];
+    say(&text);
+}
+
+// A part of the file, or nothing where it does not lie inside.
+fn say_span(file: &[u8], part: Span) {
+    let start = part.start;
+    let end = part.end;
+    if file.len() < end {
+        return;
+    }
+    if end < start {
+        return;
+    }
+    say(&file[start..end]);
+}
+
+fn say_count(star: bool, count: u32) {
+    if star {
+        say(b"*");
+    } else {
+        say_number(count as u64);
+    }
+}
+
+// A definition as the text has it, and the place after it.
+fn say_definition(file: &[u8], d: Definition) {
+    say_span(file, d.name);
+    say(b"=");
+    say_letter(d.kind);
+    say(b",");
+    say_count(d.star, d.count);
+    say(b",");
+    say_letter(d.key);
+    say(b",");
+    say_span(file, d.description);
+    say(b",");
+    say_span(file, d.value);
+    say(b",");
+    say_span(file, d.thematic);
+    say(b",");
+    say_span(file, d.narrative);
+    say(b", after ");
+    say_number(d.after as u64);
+}
+
+// Says a step at a place, and answers the place after it.
+fn say_step(file: &[u8], place: usize) -> usize {
+    say(b"  at ");
+    say_number(place as u64);
+    say(b" ");
+    match header::column_step(file, place) {
+        Step::Column(d) => {
+            say_definition(file, d);
+            say(b"\n");
+            d.after
+        }
+        Step::Done => {
+            say(b"done\n");
+            place
+        }
+        Step::Refused(bad) => {
+            say_refusal(bad);
+            say(b"\n");
+            place
+        }
+    }
+}
+
+// What a row needs of a column.
+fn say_column(c: ColumnLayout) {
+    say(b"  ");
+    let kind = c.kind;
+    say_letter(kind.letter());
+    say(b",");
+    say_count(c.star, c.count);
+    say(b" bytes ");
+    say_number(c.size as u64);
+    say(b" after ");
+    say_number(c.offset as u64);
+    say(b"\n");
+}
+
+fn say_order(order: Order) {
+    match order {
+        Order::Least => say(b", order L"),
+        Order::Most => say(b", order M"),
+    }
+}
+
+fn say_layout(layout: Layout) {
+    let order = layout.order;
+    say_order(order);
+    say(b", rows from ");
+    say_number(layout.start as u64);
+    say(b", columns ");
+    say_number(layout.columns as u64);
+    say(b", id ");
+    say_number(layout.id as u64);
+    say(b", width ");
+    say_number(layout.width as u64);
+    say(b"\n");
+}
+
+fn within(count: usize) -> usize
+    ensures { λ r. ⌜ r ≤ 64 ⌝ }
+{
+    if count < MOST_COLUMNS {
+        count
+    } else {
+        MOST_COLUMNS
+    }
+}
+
+// The layouts of the columns that the header has.
+fn say_columns(layout: Layout) {
+    let cols = layout.cols;
+    let count = within(layout.columns);
+    let mut i = 0;
+    while i < count {
+        let c = cols[i];
+        say_column(c);
+        i += 1;
+    }
+}
+
+// So many steps from a place; answers where they end.
+fn say_steps(file: &[u8], first: usize, count: usize) -> usize {
+    let mut place = first;
+    let mut i = 0;
+    while i < count {
+        place = say_step(file, place);
+        i += 1;
+    }
+    place
+}
+
+fn say_header(file: &[u8]) {
+    let h = header::read_header(file);
+    let answer = h.answer;
+    let layout = h.layout;
+    match answer {
+        Answer::Accepted => say(b"accepted"),
+        Answer::Refused(bad) => say_refusal(bad),
+    }
+    say_layout(layout);
+    say_columns(layout);
+    let last = say_steps(file, header::first_place(file), layout.columns);
+    say_step(file, last);
+}
+
+fn run_case(case: &[u8]) {
+    let first = casefile::after(case, 0);
+    let second = casefile::after(case, first);
+    let third = casefile::after(case, second);
+    let file = casefile::field(case, first);
+    let place = number::read8(casefile::field(case, second), 0, Order::Least) as usize;
+    let name = casefile::field(case, third);
+    say(casefile::field(case, 0));
+    say(b": ");
+    say_header(file);
+    say_step(file, place);
+    say(b"  `");
+    say(name);
+    say(b"` is column ");
+    say_number(header::find_column(file, name) as u64);
+    say(b"\n");
+}
+
+fn run(file: &[u8]) {
+    let mut at = 0;
+    while at < file.len() {
+        run_case(casefile::field(file, at));
+        at = casefile::after(file, at);
+    }
+}
+
+fn run_file(path: &[u8]) {
+    let mut buf = io::large_buffer();
+    let n = casefile::load(path, &mut buf);
+    run(&buf[..n]);
+}
+
+fn main() {
+    run_file(b"cases");
+    run_file(b"long");
+    run_file(b"longer");
+}
