@@ -47,6 +47,7 @@ fn join4(a: u8, b: u8, c: u8, d: u8) -> u32
     a as u32 + 256 * (b as u32 + 256 * (c as u32 + 256 * (d as u32)))
 }
 
+// The number of 8 bytes, the least significant first.
 fn join8(a: u8, b: u8, c: u8, d: u8, e: u8, f: u8, g: u8, h: u8) -> u64
     ensures { λ r. ⌜ r ≡ leastFirst (a ∷ b ∷ c ∷ d ∷ e ∷ f ∷ g ∷ h ∷ []) ⌝ }
 {
@@ -55,6 +56,7 @@ fn join8(a: u8, b: u8, c: u8, d: u8, e: u8, f: u8, g: u8, h: u8) -> u64
     low as u64 + 4294967296 * (high as u64)
 }
 
+// The number of one byte at a place; 0 where it does not lie wholly inside.
 pub fn read1(s: &[u8], at: usize, order: Order) -> u8
     ensures { λ r. ⌜ r ≡ number order (now (s .entry)) at 1 ⌝ }
 {
@@ -67,6 +69,7 @@ pub fn read1(s: &[u8], at: usize, order: Order) -> u8
     s[at]
 }
 
+// The number of 2 bytes at a place; 0 where it does not lie wholly inside.
 pub fn read2(s: &[u8], at: usize, order: Order) -> u16
     ensures { λ r. ⌜ r ≡ number order (now (s .entry)) at 2 ⌝ }
 {
@@ -82,6 +85,7 @@ pub fn read2(s: &[u8], at: usize, order: Order) -> u16
     }
 }
 
+// The number of 4 bytes at a place; 0 where it does not lie wholly inside.
 pub fn read4(s: &[u8], at: usize, order: Order) -> u32
     ensures { λ r. ⌜ r ≡ number order (now (s .entry)) at 4 ⌝ }
 {
@@ -97,6 +101,7 @@ pub fn read4(s: &[u8], at: usize, order: Order) -> u32
     }
 }
 
+// The number of 8 bytes at a place; 0 where it does not lie wholly inside.
 pub fn read8(s: &[u8], at: usize, order: Order) -> u64
     ensures { λ r. ⌜ r ≡ number order (now (s .entry)) at 8 ⌝ }
 {
@@ -112,6 +117,7 @@ pub fn read8(s: &[u8], at: usize, order: Order) -> u64
     }
 }
 
+// Stores one byte from a place on, in the order given.
 fn put1(s: &mut [u8], at: usize, a: u8)
     requires { ⌜ at + 1 ≤ length (now s) ⌝ }
     ensures { λ _. ⌜ now (s .exit) ≡ sets (now (s .entry)) at (a ∷ []) ⌝ }
@@ -119,6 +125,7 @@ fn put1(s: &mut [u8], at: usize, a: u8)
     s[at] = a;
 }
 
+// Stores 2 bytes from a place on, in the order given.
 fn put2(s: &mut [u8], at: usize, a: u8, b: u8)
     requires { ⌜ at + 2 ≤ length (now s) ⌝ }
     ensures { λ _. ⌜ now (s .exit) ≡ sets (now (s .entry)) at (a ∷ b ∷ []) ⌝ }
@@ -127,6 +134,7 @@ fn put2(s: &mut [u8], at: usize, a: u8, b: u8)
     s[at + 1] = b;
 }
 
+// Stores 4 bytes from a place on, in the order given.
 fn put4(s: &mut [u8], at: usize, a: u8, b: u8, c: u8, d: u8)
     requires { ⌜ at + 4 ≤ length (now s) ⌝ }
     ensures { λ _. ⌜ now (s .exit) ≡ sets (now (s .entry)) at (a ∷ b ∷ c ∷ d ∷ []) ⌝ }
@@ -137,6 +145,7 @@ fn put4(s: &mut [u8], at: usize, a: u8, b: u8, c: u8, d: u8)
     s[at + 3] = d;
 }
 
+// Stores 8 bytes from a place on, in the order given.
 fn put8(s: &mut [u8], at: usize, a: u8, b: u8, c: u8, d: u8, e: u8, f: u8, g: u8, h: u8)
     requires { ⌜ at + 8 ≤ length (now s) ⌝ }
     ensures { λ _. ⌜ now (s .exit) ≡ sets (now (s .entry)) at (a ∷ b ∷ c ∷ d ∷ e ∷ f ∷ g ∷ h ∷ []) ⌝ }
@@ -151,6 +160,7 @@ fn put8(s: &mut [u8], at: usize, a: u8, b: u8, c: u8, d: u8, e: u8, f: u8, g: u8
     s[at + 7] = h;
 }
 
+// Writes the number in one byte at a place; nothing where they do not lie wholly inside.
 pub fn write1(s: &mut [u8], at: usize, v: u8, order: Order)
     ensures { λ _. ⌜ now (s .exit) ≡ written order (now (s .entry)) at 1 v ⌝ }
 {
@@ -163,6 +173,7 @@ pub fn write1(s: &mut [u8], at: usize, v: u8, order: Order)
     put1(s, at, v);
 }
 
+// Writes the number in 2 bytes at a place; nothing where they do not lie wholly inside.
 pub fn write2(s: &mut [u8], at: usize, v: u16, order: Order)
     ensures { λ _. ⌜ now (s .exit) ≡ written order (now (s .entry)) at 2 v ⌝ }
 {
@@ -181,6 +192,7 @@ pub fn write2(s: &mut [u8], at: usize, v: u16, order: Order)
     }
 }
 
+// Writes the number in 4 bytes at a place; nothing where they do not lie wholly inside.
 pub fn write4(s: &mut [u8], at: usize, v: u32, order: Order)
     ensures { λ _. ⌜ now (s .exit) ≡ written order (now (s .entry)) at 4 v ⌝ }
 {
@@ -203,6 +215,7 @@ pub fn write4(s: &mut [u8], at: usize, v: u32, order: Order)
     }
 }
 
+// Writes the number in 8 bytes at a place; nothing where they do not lie wholly inside.
 pub fn write8(s: &mut [u8], at: usize, v: u64, order: Order)
     ensures { λ _. ⌜ now (s .exit) ≡ written order (now (s .entry)) at 8 v ⌝ }
 {
