@@ -9,3 +9,5 @@ pub mod FoundLaws
 pub mod OpeningLaws
 pub mod FieldExactly
 pub mod RowExactly
+pub mod ColumnBytes
+pub mod ValueOfRow

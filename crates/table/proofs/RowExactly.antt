@@ -171,7 +171,7 @@ module _ (file index : List ℕ) (most : ℕ) (h : Reading) (n : ℕ) (o : Opens
     abbrev opened : Table
     opened = record { layout = l; rows = n }
 
-    row-there : noSuchRow opened i ≡ false
+    pub row-there : noSuchRow opened i ≡ false
     row-there = there (min n mostRows) i (r .0, omega (arith, r .1, o .row-limit))
 
     pub row-of-exactly : (rowOf file index opened i ≡ Between start end) ↔ RowRight file l start end i
