@@ -4,3 +4,5 @@ pub mod RowLaws
 pub mod SlotLaws
 pub mod FoundLaws
 pub mod OpeningLaws
+pub mod SignedLaws
+pub mod ValueLaws
