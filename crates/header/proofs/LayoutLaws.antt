@@ -42,7 +42,7 @@ unfolding laidColumns rowWidth
 all-laid s n k q bytes varying width cols b v w e =
     (λ t. record {
       width = (w ∙ ap (λ (x : Bool). cond x 0 bytes) v ∙ ap (λ (x : ℕ). cond (someVaries s k) 0 x) b ∙ ap (λ (i : ℕ). cond (someVaries s i) 0 (bytesOfAll s i)) q) t;
-      cols = (e ∙ ap (λ (i : ℕ). laidOut s i ++ replicate (mostColumns - i) blankColumn) q) t
+      cols = (e ∙ ap (λ (i : ℕ). laidOut s i ++ replicate (mostColumns - i) blankColumn) q) t;
     })
 
 -- the parts of a layout

@@ -189,15 +189,30 @@ fn definition_at(head: &[u8], p: usize) -> Definition
     let narrative_end = seek_byte(head, thematic_end + 1, b',');
     let count = count_of(head, name_end + 3, count_end);
     Definition {
-        name: Span { start: p, end: name_end },
+        name: Span {
+            start: p,
+            end: name_end,
+        },
         kind: byte_at(head, name_end + 1),
         star: byte_at(head, name_end + 3) == b'*',
         count: count,
         key: byte_at(head, count_end + 1),
-        description: Span { start: count_end + 3, end: description_end },
-        value: Span { start: description_end + 1, end: value_end },
-        thematic: Span { start: value_end + 1, end: thematic_end },
-        narrative: Span { start: thematic_end + 1, end: narrative_end },
+        description: Span {
+            start: count_end + 3,
+            end: description_end,
+        },
+        value: Span {
+            start: description_end + 1,
+            end: value_end,
+        },
+        thematic: Span {
+            start: value_end + 1,
+            end: thematic_end,
+        },
+        narrative: Span {
+            start: thematic_end + 1,
+            end: narrative_end,
+        },
         after: narrative_end + 2,
     }
 }
@@ -442,7 +457,11 @@ fn id_wrong(head: &[u8], n: usize) -> bool
         return true;
     }
     let d = definition_at(head, place_after(head, id - 1));
-    if id_sound(d) { key_elsewhere(head, n, id) } else { true }
+    if id_sound(d) {
+        key_elsewhere(head, n, id)
+    } else {
+        true
+    }
 }
 
 // 5 for a name, then 6.
@@ -484,7 +503,11 @@ fn judge_text(head: &[u8], order: Order) -> Judged
         Scan::Columns(n) => {
             let q = judge_columns(head, n);
             if q.number == 0 {
-                Judged::Sound(Facts { order: order, start: head.len(), columns: n })
+                Judged::Sound(Facts {
+                    order: order,
+                    start: head.len(),
+                    columns: n,
+                })
             } else {
                 Judged::Refused(q)
             }
@@ -620,7 +643,10 @@ fn lay_columns(head: &[u8], n: usize) -> Laid
         k += 1;
     }
     let width = width_of(varying, bytes);
-    Laid { width: width, cols: cols }
+    Laid {
+        width: width,
+        cols: cols,
+    }
 }
 
 // The layout of an accepted header.
@@ -667,12 +693,18 @@ pub fn read_header(file: &[u8]) -> Header
             let end = facts.start;
             let layout = lay_out(&file[0..end], facts);
             let answer = Answer::Accepted;
-            Header { answer: answer, layout: layout }
+            Header {
+                answer: answer,
+                layout: layout,
+            }
         }
         Judged::Refused(q) => {
             let layout = blank_layout();
             let answer = Answer::Refused(q);
-            Header { answer: answer, layout: layout }
+            Header {
+                answer: answer,
+                layout: layout,
+            }
         }
     }
 }

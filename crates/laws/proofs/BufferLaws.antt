@@ -32,7 +32,6 @@ pub listed-ext : (g h : ℕ → ℕ) (n : ℕ) → ((k : ℕ) → k < n → g k 
 listed-ext g h zero e = refl
 listed-ext g h (suc n) e = rw (listed-ext g h n (λ k l. e k (omega arith)), e n (omega arith))
 
-
 pub length-front : (g : ℕ → ℕ) (n : ℕ) (d : List ℕ) → n ≤ length d → length (front g n d) ≡ length d
 length-front g n d h = simp (length-append, length-listed, length-drop) (omega arith)
 

@@ -12,7 +12,9 @@ returns : tie.Need-returns
 returns c = search needs
 
 returns-2 : tie.Need-returns-2
-returns-2 c = sym (List·getD-eq-default ((c .before .args) .head .now) 0 {n = (c .before .args) .p} (omega arith))
+returns-2 c =
+    let args = c .before .args in
+    sym (List·getD-eq-default (args .head .now) 0 {n = args .p} (omega arith))
 
 pub byte-at-spec : {M : Type 1} → statement M
 byte-at-spec = tie.close (tie.spec shared-slice-read-result returns returns-2)

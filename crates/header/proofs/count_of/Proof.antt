@@ -15,13 +15,18 @@ number-from-requires : tie.Need-number-from-requires
 number-from-requires c κs = search needs
 
 returns : tie.Need-returns
-returns c = ((c .number-from) .ensures .0 ∙ count-long ((c .before .before .before .args) .head .now) ((c .before .before .before .args) .p) ((c .before .before .before .args) .e) (omega arith), (c .number-from) .ensures .1)
+returns c =
+    let args = c .before .before .before .args in
+    (c .number-from .ensures .0 ∙ count-long (args .head .now) (args .p) (args .e) (omega arith), c .number-from .ensures .1)
 
 number-from-requires-2 : tie.Need-number-from-requires-2
 number-from-requires-2 c κs = search needs
 
 returns-2 : tie.Need-returns-2
-returns-2 c = ((c .number-from2) .ensures .0 ∙ count-short ((c .before .before .before .args) .head .now) ((c .before .before .before .args) .p) ((c .before .before .before .args) .e) (omega arith), (c .number-from2) .ensures .1)
+returns-2 c =
+    let number-from2 = c .number-from2 in
+    let args = c .before .before .before .args in
+    (number-from2 .ensures .0 ∙ count-short (args .head .now) (args .p) (args .e) (omega arith), number-from2 .ensures .1)
 
 pub count-of-spec : {M : Type 1} → statement M
 count-of-spec =

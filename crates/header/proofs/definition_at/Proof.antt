@@ -77,9 +77,21 @@ add-t26 c = search needs
 
 returns : tie.Need-returns
 returns c =
-    (defined ((c .before .before .before .before .before .before .before .before .before .before .before .args) .head .now) ((c .before .before .before .before .before .before .before .before .before .before .before .args) .p) ((c .before .before .before .before .before .before .before .before .before .seek-byte) .result) ((c .before .before .before .before .before .before .before .before .seek-byte2) .result) ((c .before .before .before .before .before .before .before .seek-byte3) .result) ((c .before .before .before .before .before .before .seek-byte4) .result) ((c .before .before .before .before .before .seek-byte5) .result) ((c .before .before .before .before .seek-byte6) .result)
-    ((c .before .before .before .before .before .before .before .before .before .seek-byte) .ensures .0) ((c .before .before .before .before .before .before .before .before .seek-byte2) .ensures .0) ((c .before .before .before .before .before .before .before .seek-byte3) .ensures .0) ((c .before .before .before .before .before .before .seek-byte4) .ensures .0) ((c .before .before .before .before .before .seek-byte5) .ensures .0) ((c .before .before .before .before .seek-byte6) .ensures .0)
-    ((c .before .before .byte-at) .result) ((c .before .byte-at2) .result) ((c .before .before .before .count-of) .result) ((c .byte-at3) .result) ((c .before .before .byte-at) .ensures) ((c .before .byte-at2) .ensures) ((c .before .before .before .count-of) .ensures .0) ((c .byte-at3) .ensures), (c .before .before .before .count-of) .ensures .1)
+    let args = c .before .before .before .before .before .before .before .before .before .before .before .args in
+    let seek-byte = c .before .before .before .before .before .before .before .before .before .seek-byte in
+    let seek-byte2 = c .before .before .before .before .before .before .before .before .seek-byte2 in
+    let seek-byte3 = c .before .before .before .before .before .before .before .seek-byte3 in
+    let seek-byte4 = c .before .before .before .before .before .before .seek-byte4 in
+    let seek-byte5 = c .before .before .before .before .before .seek-byte5 in
+    let seek-byte6 = c .before .before .before .before .seek-byte6 in
+    let byte-at = c .before .before .byte-at in
+    let byte-at2 = c .before .byte-at2 in
+    let count-of = c .before .before .before .count-of in (
+      defined (args .head .now) (args .p) (seek-byte .result) (seek-byte2 .result) (seek-byte3 .result) (seek-byte4 .result) (seek-byte5 .result) (seek-byte6 .result)
+          (seek-byte .ensures .0) (seek-byte2 .ensures .0) (seek-byte3 .ensures .0) (seek-byte4 .ensures .0) (seek-byte5 .ensures .0) (seek-byte6 .ensures .0)
+          (byte-at .result) (byte-at2 .result) (count-of .result) (c .byte-at3 .result) (byte-at .ensures) (byte-at2 .ensures) (count-of .ensures .0) (c .byte-at3 .ensures),
+      count-of .ensures .1,
+    )
 
 pub definition-at-spec : {M : Type 1} → statement M
 definition-at-spec =

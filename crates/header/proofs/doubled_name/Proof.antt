@@ -26,10 +26,10 @@ gather-names-requires : tie.Need-gather-names-requires Inv-loop μ-loop Inv-sear
 gather-names-requires c κs = search needs
 
 search-holds : tie.Need-search-holds Inv-loop μ-loop Inv-search μ-search
-search-holds c = (omega arith, none-start (namedBefore ((c .before .before .args) .head .now)))
+search-holds c = (omega arith, none-start (namedBefore (c .before .before .args .head .now)))
 
 loop-holds : tie.Need-loop-holds Inv-loop μ-loop Inv-search μ-search
-loop-holds c = (omega arith, none-start (namesAs ((c .before .before .before .before .args) .head .now) ((c .before .search) .later)))
+loop-holds c = (omega arith, none-start (namesAs (c .before .before .before .before .args .head .now) (c .before .search .later)))
 
 mul-same-name : tie.Need-mul-same-name Inv-loop μ-loop Inv-search μ-search
 mul-same-name c = search needs
@@ -47,8 +47,10 @@ element-copy-out-same-name-2 c = search needs
 
 same-name-requires : tie.Need-same-name-requires Inv-loop μ-loop Inv-search μ-search
 same-name-requires c κs =
-    let ends = name-ends ((c .before .before .before .before .before .before .before .before .args) .head .now) ((c .before .before .before .before .before .before .before .before .args) .n) ((c .before .before .before .before .before .before .gather-names) .result) ((c .before .before .before .before .before .before .gather-names) .ensures) in
-    (ends ((c .before .before .before .loop) .earlier) (omega arith), ends ((c .before .before .before .before .before .search) .later) (omega arith))
+    let args = c .before .before .before .before .before .before .before .before .args in
+    let gather-names = c .before .before .before .before .before .before .gather-names in
+    let ends = name-ends (args .head .now) (args .n) (gather-names .result) (gather-names .ensures) in
+    (ends (c .before .before .before .loop .earlier) (omega arith), ends (c .before .before .before .before .before .search .later) (omega arith))
 
 add-earlier : tie.Need-add-earlier Inv-loop μ-loop Inv-search μ-search
 add-earlier c = search needs
@@ -58,9 +60,15 @@ loop-less c = search needs
 
 loop-again : tie.Need-loop-again Inv-loop μ-loop Inv-search μ-search
 loop-again c =
-    let s = (c .before .before .before .before .before .before .before .before .before .before .args) .head .now in
-    (omega arith, none-next (namesAs s ((c .before .before .before .before .before .before .before .search) .later)) ((c .before .before .before .before .before .loop) .earlier) ((c .before .before .before .before .before .loop) .inv .1)
-    (pair-tested s ((c .before .before .before .before .before .before .before .before .before .before .args) .n) ((c .before .before .before .before .before .before .before .before .gather-names) .result) ((c .before .before .before .before .before .before .before .before .gather-names) .ensures) ((c .before .before .before .before .before .loop) .earlier) ((c .before .before .before .before .before .before .before .search) .later) _ (omega arith) (omega arith) ((c .before .same-name) .ensures) ∙ (c .if1) .left))
+    let args = c .before .before .before .before .before .before .before .before .before .before .args in
+    let outer = c .before .before .before .before .before .before .before .search in
+    let loop = c .before .before .before .before .before .loop in
+    let gather-names = c .before .before .before .before .before .before .before .before .gather-names in
+    let s = args .head .now in (
+      omega arith,
+      none-next (namesAs s (outer .later)) (loop .earlier) (loop .inv .1)
+          (pair-tested s (args .n) (gather-names .result) (gather-names .ensures) (loop .earlier) (outer .later) _ (omega arith) (omega arith) (c .before .same-name .ensures) ∙ c .if1 .left),
+    )
 
 add-later : tie.Need-add-later Inv-loop μ-loop Inv-search μ-search
 add-later c = search needs
@@ -70,29 +78,33 @@ search-less c = search needs
 
 search-again : tie.Need-search-again Inv-loop μ-loop Inv-search μ-search
 search-again c =
-    let s = (c .before .before .before .before .before .before .args) .head .now in
-    (omega arith, none-next (namedBefore s) ((c .before .before .before .search) .later) ((c .before .before .before .search) .inv .1) (no-earlier s ((c .before .loop) .earlier) ((c .before .before .before .search) .later) ((c .before .loop) .inv .1) (omega arith)))
+    let outer = c .before .before .before .search in
+    let loop = c .before .loop in
+    let s = c .before .before .before .before .before .before .args .head .now in
+    (omega arith, none-next (namedBefore s) (outer .later) (outer .inv .1) (no-earlier s (loop .earlier) (outer .later) (loop .inv .1) (omega arith)))
 
 add-result : tie.Need-add-result Inv-loop μ-loop Inv-search μ-search
 add-result c = search needs
 
 returns : tie.Need-returns Inv-loop μ-loop Inv-search μ-search
 returns c =
-    let s = (c .before .before .before .before .before .args) .head .now in
-    let o = (c .before .before .search) in
-    let g = (c .before .before .before .gather-names) in
+    let args = c .before .before .before .before .before .args in
+    let s = args .head .now in
+    let o = c .before .before .search in
+    let g = c .before .before .before .gather-names in
     ⊎-elim
-    (λ w. let z : ⊥ = omega (arith, w .left, (c .if2) .taken) in absurd z)
-    (λ w. lowest-next (namedBefore s) ((c .before .before .before .before .before .args) .n) (o .later) ((c .if2) .taken) (o .inv .1) (an-earlier s (w .1 .earlier) (o .later) (w .1 .inv .1) (w .2 .taken)
-    (pair-tested s ((c .before .before .before .before .before .args) .n) (g .result) (g .ensures) (w .1 .earlier) (o .later) _ (omega (arith, w .2 .taken)) (omega arith) (w .5 .ensures) ∙ w .6 .taken)))
-    ((c .before .search-test) .came)
+    (λ w. let z : ⊥ = omega (arith, w .left, c .if2 .taken) in absurd z)
+    (λ w. lowest-next (namedBefore s) (args .n) (o .later) (c .if2 .taken) (o .inv .1) (an-earlier s (w .1 .earlier) (o .later) (w .1 .inv .1) (w .2 .taken)
+    (pair-tested s (args .n) (g .result) (g .ensures) (w .1 .earlier) (o .later) _ (omega (arith, w .2 .taken)) (omega arith) (w .5 .ensures) ∙ w .6 .taken)))
+    (c .before .search-test .came)
 
 returns-2 : tie.Need-returns-2 Inv-loop μ-loop Inv-search μ-search
 returns-2 c =
-    let s = (c .before .before .before .before .before .args) .head .now in
-    let o = (c .before .before .search) in
-    let q : o .later ≡ (c .before .before .before .before .before .args) .n = omega arith in
-    sym (lowest-nothing (namedBefore s) ((c .before .before .before .before .before .args) .n) (rw q at (o .inv .1)))
+    let args = c .before .before .before .before .before .args in
+    let s = args .head .now in
+    let o = c .before .before .search in
+    let q : o .later ≡ args .n = omega arith in
+    sym (lowest-nothing (namedBefore s) (args .n) (rw q at (o .inv .1)))
 
 pub doubled-name-spec : {M : Type 1} → statement M
 doubled-name-spec =

@@ -19,19 +19,23 @@ part-named-column-start : tie.Need-part-named-column-start
 part-named-column-start c = search needs
 
 part-named-column-end : tie.Need-part-named-column-end
-part-named-column-end c = let p = sound-passed ((c .before .before .before .before .before .before .args) .file .now) _ (sym ((c .before .before .before .judge-file) .ensures) ∙ (c .before .facts) .given .1) in omega (arith, p .fits)
+part-named-column-end c = let p = sound-passed (c .before .before .before .before .before .before .args .file .now) _ (sym (c .before .before .before .judge-file .ensures) ∙ c .before .facts .given .1) in omega (arith, p .fits)
 
 named-column-requires : tie.Need-named-column-requires
-named-column-requires c κs = let p = sound-passed ((c .before .before .before .before .before .before .before .args) .file .now) _ (sym ((c .before .before .before .before .judge-file) .ensures) ∙ (c .before .before .facts) .given .1) in omega (arith, p .short)
+named-column-requires c κs = let p = sound-passed (c .before .before .before .before .before .before .before .args .file .now) _ (sym (c .before .before .before .before .judge-file .ensures) ∙ c .before .before .facts .given .1) in omega (arith, p .short)
 
 enum-told : tie.Need-enum-told
 enum-told c = search needs
 
 returns : tie.Need-returns
-returns c = let p = sound-passed ((c .before .before .before .before .before .before .before .before .args) .file .now) _ (sym ((c .before .before .before .before .before .judge-file) .ensures) ∙ (c .before .before .before .facts) .given .1) in (c .named-column) .ensures ∙ accepted-column ((c .before .before .before .before .before .before .before .before .args) .file .now) _ p ((c .before .before .before .before .before .before .before .before .args) .name .now)
+returns c =
+    let args = c .before .before .before .before .before .before .before .before .args in
+    let p = sound-passed (args .file .now) _ (sym (c .before .before .before .before .before .judge-file .ensures) ∙ c .before .before .before .facts .given .1) in c .named-column .ensures ∙ accepted-column (args .file .now) _ p (args .name .now)
 
 returns-2 : tie.Need-returns-2
-returns-2 c = let q = refused-by ((c .before .before .before .before .before .args) .file .now) _ (sym ((c .before .before .judge-file) .ensures) ∙ (c .enum-told) .given .1) in refused-column ((c .before .before .before .before .before .args) .file .now) _ q ((c .before .before .before .before .before .args) .name .now)
+returns-2 c =
+    let args = c .before .before .before .before .before .args in
+    let q = refused-by (args .file .now) _ (sym (c .before .before .judge-file .ensures) ∙ c .enum-told .given .1) in refused-column (args .file .now) _ q (args .name .now)
 
 pub find-column-spec : {M : Type 1} → statement M
 find-column-spec =

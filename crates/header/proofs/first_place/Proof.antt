@@ -19,19 +19,23 @@ part-first-definition-start : tie.Need-part-first-definition-start
 part-first-definition-start c = search needs
 
 part-first-definition-end : tie.Need-part-first-definition-end
-part-first-definition-end c = let p = sound-passed ((c .before .before .before .before .before .args) .file .now) _ (sym ((c .before .before .before .judge-file) .ensures) ∙ (c .before .facts) .given .1) in omega (arith, p .fits)
+part-first-definition-end c = let p = sound-passed (c .before .before .before .before .before .args .file .now) _ (sym (c .before .before .before .judge-file .ensures) ∙ c .before .facts .given .1) in omega (arith, p .fits)
 
 first-definition-requires : tie.Need-first-definition-requires
-first-definition-requires c κs = let p = sound-passed ((c .before .before .before .before .before .before .args) .file .now) _ (sym ((c .before .before .before .before .judge-file) .ensures) ∙ (c .before .before .facts) .given .1) in omega (arith, p .short)
+first-definition-requires c κs = let p = sound-passed (c .before .before .before .before .before .before .args .file .now) _ (sym (c .before .before .before .before .judge-file .ensures) ∙ c .before .before .facts .given .1) in omega (arith, p .short)
 
 enum-told : tie.Need-enum-told
 enum-told c = search needs
 
 returns : tie.Need-returns
-returns c = let p = sound-passed ((c .before .before .before .before .before .before .before .args) .file .now) _ (sym ((c .before .before .before .before .before .judge-file) .ensures) ∙ (c .before .before .before .facts) .given .1) in (c .first-definition) .ensures ∙ accepted-start ((c .before .before .before .before .before .before .before .args) .file .now) _ p
+returns c =
+    let args = c .before .before .before .before .before .before .before .args in
+    let p = sound-passed (args .file .now) _ (sym (c .before .before .before .before .before .judge-file .ensures) ∙ c .before .before .before .facts .given .1) in c .first-definition .ensures ∙ accepted-start (args .file .now) _ p
 
 returns-2 : tie.Need-returns-2
-returns-2 c = let q = refused-by ((c .before .before .before .before .args) .file .now) _ (sym ((c .before .before .judge-file) .ensures) ∙ (c .enum-told) .given .1) in refused-start ((c .before .before .before .before .args) .file .now) _ q
+returns-2 c =
+    let args = c .before .before .before .before .args in
+    let q = refused-by (args .file .now) _ (sym (c .before .before .judge-file .ensures) ∙ c .enum-told .given .1) in refused-start (args .file .now) _ q
 
 pub first-place-spec : {M : Type 1} → statement M
 first-place-spec =

@@ -24,7 +24,7 @@ first-definition-requires : tie.Need-first-definition-requires Inv-loop μ-loop
 first-definition-requires c κs = search needs
 
 loop-holds : tie.Need-loop-holds Inv-loop μ-loop
-loop-holds c = (omega arith, at-first ((c .before .before .args) .head .now) _ ((c .first-definition) .ensures), refl)
+loop-holds c = (omega arith, at-first (c .before .before .args .head .now) _ (c .first-definition .ensures), refl)
 
 definition-at-requires : tie.Need-definition-at-requires Inv-loop μ-loop
 definition-at-requires c κs = search needs
@@ -43,14 +43,19 @@ loop-less c = search needs
 
 loop-again : tie.Need-loop-again Inv-loop μ-loop
 loop-again c =
-    let s = (c .before .before .before .before .before .before .args) .head .now in
-    let b = (c .before .before .before .loop) in
-    let d = (c .before .definition-at) in
-    (omega arith, at-next s (b .k) (b .at) (d .result) (b .inv .1) (d .ensures .0),
-    oneTo-next (λ j. column s j .name) (b .names) mostColumns (b .k) (span 0 0) (d .result .name) (omega arith) (b .inv .2) (ap (λ (x : Definition). x .name) (is-column s (b .k) (b .at) (d .result) (b .inv .1) (d .ensures .0))))
+    let s = c .before .before .before .before .before .before .args .head .now in
+    let b = c .before .before .before .loop in
+    let d = c .before .definition-at in (
+      omega arith,
+      at-next s (b .k) (b .at) (d .result) (b .inv .1) (d .ensures .0),
+      oneTo-next (λ j. column s j .name) (b .names) mostColumns (b .k) (span 0 0) (d .result .name) (omega arith) (b .inv .2) (ap (λ (x : Definition). x .name) (is-column s (b .k) (b .at) (d .result) (b .inv .1) (d .ensures .0))),
+    )
 
 returns : tie.Need-returns Inv-loop μ-loop
-returns c = gathered ((c .before .before .before .before .args) .head .now) ((c .before .before .before .before .args) .n) ((c .before .loop) .k) (omega arith) ((c .before .loop) .names) ((c .before .loop) .inv .2)
+returns c =
+    let args = c .before .before .before .before .args in
+    let loop = c .before .loop in
+    gathered (args .head .now) (args .n) (loop .k) (omega arith) (loop .names) (loop .inv .2)
 
 pub gather-names-spec : {M : Type 1} → statement M
 gather-names-spec =

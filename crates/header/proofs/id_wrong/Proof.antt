@@ -11,7 +11,10 @@ named-column-requires : tie.Need-named-column-requires
 named-column-requires c κs = search needs
 
 returns : tie.Need-returns
-returns c = id-missing ((c .before .before .before .before .args) .head .now) ((c .before .before .before .before .args) .n) ((c .before .named-column) .result) ((c .before .named-column) .ensures) ((c .if1) .taken)
+returns c =
+    let args = c .before .before .before .before .args in
+    let named-column = c .before .named-column in
+    id-missing (args .head .now) (args .n) (named-column .result) (named-column .ensures) (c .if1 .taken)
 
 sub-place-after : tie.Need-sub-place-after
 sub-place-after c = search needs
@@ -30,13 +33,22 @@ key-elsewhere-requires c κs = search needs
 
 returns-2 : tie.Need-returns-2
 returns-2 c =
-    id-sound-or ((c .before .before .before .before .before .before .before .before .before .args) .head .now) ((c .before .before .before .before .before .before .before .before .before .args) .n) ((c .before .before .before .before .before .before .named-column) .result) ((c .before .before .before .before .before .before .named-column) .ensures) ((c .before .before .before .before .before .if1) .left) ((c .before .before .before .before .place-after) .result) ((c .before .before .before .definition-at) .result) ((c .before .before .before .before .place-after) .ensures) ((c .before .before .before .definition-at) .ensures .0)
-    ((c .key-elsewhere) .result) (sym ((c .before .if2) .taken) ∙ (c .before .before .id-sound) .ensures) ((c .key-elsewhere) .ensures)
+    let args = c .before .before .before .before .before .before .before .before .before .args in
+    let named-column = c .before .before .before .before .before .before .named-column in
+    let place-after = c .before .before .before .before .place-after in
+    let definition-at = c .before .before .before .definition-at in
+    let key-elsewhere = c .key-elsewhere in
+    id-sound-or (args .head .now) (args .n) (named-column .result) (named-column .ensures) (c .before .before .before .before .before .if1 .left) (place-after .result) (definition-at .result) (place-after .ensures) (definition-at .ensures .0)
+    (key-elsewhere .result) (sym (c .before .if2 .taken) ∙ c .before .before .id-sound .ensures) (key-elsewhere .ensures)
 
 returns-3 : tie.Need-returns-3
 returns-3 c =
-    id-unsound ((c .before .before .before .before .before .before .before .before .args) .head .now) ((c .before .before .before .before .before .before .before .before .args) .n) ((c .before .before .before .before .before .named-column) .result) ((c .before .before .before .before .before .named-column) .ensures) ((c .before .before .before .before .if1) .left) ((c .before .before .before .place-after) .result) ((c .before .before .definition-at) .result) ((c .before .before .before .place-after) .ensures) ((c .before .before .definition-at) .ensures .0)
-    (sym ((c .if2) .left) ∙ (c .before .id-sound) .ensures)
+    let args = c .before .before .before .before .before .before .before .before .args in
+    let named-column = c .before .before .before .before .before .named-column in
+    let place-after = c .before .before .before .place-after in
+    let definition-at = c .before .before .definition-at in
+    id-unsound (args .head .now) (args .n) (named-column .result) (named-column .ensures) (c .before .before .before .before .if1 .left) (place-after .result) (definition-at .result) (place-after .ensures) (definition-at .ensures .0)
+    (sym (c .if2 .left) ∙ c .before .id-sound .ensures)
 
 pub id-wrong-spec : {M : Type 1} → statement M
 id-wrong-spec =

@@ -9,7 +9,10 @@ judge-each-requires : tie.Need-judge-each-requires
 judge-each-requires c κs = search needs
 
 returns : tie.Need-returns
-returns c = columns-each ((c .before .before .before .before .args) .head .now) ((c .before .before .before .before .args) .n) ((c .before .before .judge-each) .result) ((c .before .before .judge-each) .ensures) ((c .if1) .taken)
+returns c =
+    let args = c .before .before .before .before .args in
+    let judge-each = c .before .before .judge-each in
+    columns-each (args .head .now) (args .n) (judge-each .result) (judge-each .ensures) (c .if1 .taken)
 
 add-refuse : tie.Need-add-refuse
 add-refuse c = search needs
@@ -18,13 +21,19 @@ refuse-requires : tie.Need-refuse-requires
 refuse-requires c κs = search needs
 
 returns-2 : tie.Need-returns-2
-returns-2 c = (c .refuse) .ensures ∙ columns-many ((c .before .before .before .before .before .before .args) .head .now) ((c .before .before .before .before .before .before .args) .n) ((c .before .before .before .before .judge-each) .result) ((c .before .before .before .before .judge-each) .ensures) ((c .before .before .if1) .left) (omega arith)
+returns-2 c =
+    let args = c .before .before .before .before .before .before .args in
+    let judge-each = c .before .before .before .before .judge-each in
+    c .refuse .ensures ∙ columns-many (args .head .now) (args .n) (judge-each .result) (judge-each .ensures) (c .before .before .if1 .left) (omega arith)
 
 judge-names-requires : tie.Need-judge-names-requires
 judge-names-requires c κs = search needs
 
 returns-3 : tie.Need-returns-3
-returns-3 c = (c .judge-names) .ensures ∙ columns-named ((c .before .before .before .before .before .before .args) .head .now) ((c .before .before .before .before .before .before .args) .n) ((c .before .before .before .before .judge-each) .result) ((c .before .before .before .before .judge-each) .ensures) ((c .before .before .if1) .left) (omega arith)
+returns-3 c =
+    let args = c .before .before .before .before .before .before .args in
+    let judge-each = c .before .before .before .before .judge-each in
+    c .judge-names .ensures ∙ columns-named (args .head .now) (args .n) (judge-each .result) (judge-each .ensures) (c .before .before .if1 .left) (omega arith)
 
 pub judge-columns-spec : {M : Type 1} → statement M
 judge-columns-spec =

@@ -24,7 +24,9 @@ first-definition-requires : tie.Need-first-definition-requires Inv-loop μ-loop
 first-definition-requires c κs = search needs
 
 loop-holds : tie.Need-loop-holds Inv-loop μ-loop
-loop-holds c = (omega arith, at-first ((c .before .before .args) .head .now) _ ((c .first-definition) .ensures), none-start (refuses (columnRefusal ((c .before .before .args) .head .now))))
+loop-holds c =
+    let args = c .before .before .args in
+    (omega arith, at-first (args .head .now) _ (c .first-definition .ensures), none-start (refuses (columnRefusal (args .head .now))))
 
 definition-at-requires : tie.Need-definition-at-requires Inv-loop μ-loop
 definition-at-requires c κs = search needs
@@ -40,11 +42,13 @@ loop-less c = search needs
 
 loop-again : tie.Need-loop-again Inv-loop μ-loop
 loop-again c =
-    let s = (c .before .before .before .before .before .before .before .args) .head .now in
-    let b = (c .before .before .before .before .loop) in
-    let d = (c .before .before .definition-at) in
-    (omega arith, at-next s (b .k) (b .at) (d .result) (b .inv .1) (d .ensures .0),
-    on-next (columnRefusal s) (b .k) fine (b .inv .2) (column-fine s (b .k) (b .at) (d .result) (b .inv .1) (d .ensures .0) (sym ((c .if1) .taken) ∙ (c .before .is-sound) .ensures)) refl)
+    let s = c .before .before .before .before .before .before .before .args .head .now in
+    let b = c .before .before .before .before .loop in
+    let d = c .before .before .definition-at in (
+      omega arith,
+      at-next s (b .k) (b .at) (d .result) (b .inv .1) (d .ensures .0),
+      on-next (columnRefusal s) (b .k) fine (b .inv .2) (column-fine s (b .k) (b .at) (d .result) (b .inv .1) (d .ensures .0) (sym (c .if1 .taken) ∙ c .before .is-sound .ensures)) refl,
+    )
 
 add-refuse : tie.Need-add-refuse Inv-loop μ-loop
 add-refuse c = search needs
@@ -54,18 +58,22 @@ refuse-requires c κs = search needs
 
 returns : tie.Need-returns Inv-loop μ-loop
 returns c =
-    let s = (c .before .before .before .before .before .before .before .before .args) .head .now in
-    let b = (c .before .before .before .before .before .loop) in
-    let d = (c .before .before .before .definition-at) in
-    found (columnRefusal s) ((c .before .before .before .before .before .before .before .before .args) .n) (b .k) ((c .refuse) .result) (omega arith) (b .inv .2)
-    ((c .refuse) .ensures ∙ column-refused s (b .k) (b .at) (d .result) (b .inv .1) (d .ensures .0) (sym ((c .before .if1) .left) ∙ (c .before .before .is-sound) .ensures))
-    (λ z. omega (arith, z, ap (λ (r : Refusal). r .number) ((c .refuse) .ensures)))
+    let args = c .before .before .before .before .before .before .before .before .args in
+    let s = args .head .now in
+    let b = c .before .before .before .before .before .loop in
+    let d = c .before .before .before .definition-at in
+    found (columnRefusal s) (args .n) (b .k) (c .refuse .result) (omega arith) (b .inv .2)
+    (c .refuse .ensures ∙ column-refused s (b .k) (b .at) (d .result) (b .inv .1) (d .ensures .0) (sym (c .before .if1 .left) ∙ c .before .before .is-sound .ensures))
+    (λ z. omega (arith, z, ap (λ (r : Refusal). r .number) (c .refuse .ensures)))
 
 no-refusal-requires : tie.Need-no-refusal-requires Inv-loop μ-loop
 no-refusal-requires c κs = search needs
 
 returns-2 : tie.Need-returns-2 Inv-loop μ-loop
-returns-2 c = (c .no-refusal) .ensures ∙ all-fine (columnRefusal ((c .before .before .before .before .before .args) .head .now)) ((c .before .before .before .before .before .args) .n) ((c .before .before .loop) .k) (omega arith) (omega arith) ((c .before .before .loop) .inv .2)
+returns-2 c =
+    let args = c .before .before .before .before .before .args in
+    let loop = c .before .before .loop in
+    c .no-refusal .ensures ∙ all-fine (columnRefusal (args .head .now)) (args .n) (loop .k) (omega arith) (omega arith) (loop .inv .2)
 
 pub judge-each-spec : {M : Type 1} → statement M
 judge-each-spec =

@@ -11,7 +11,10 @@ refuse-requires : tie.Need-refuse-requires
 refuse-requires c κs = search needs
 
 returns : tie.Need-returns
-returns c = (c .refuse) .ensures ∙ names-doubled ((c .before .before .before .before .args) .head .now) ((c .before .before .before .before .args) .n) ((c .before .before .doubled-name) .result) ((c .before .before .doubled-name) .ensures) ((c .before .if1) .taken)
+returns c =
+    let args = c .before .before .before .before .args in
+    let doubled-name = c .before .before .doubled-name in
+    c .refuse .ensures ∙ names-doubled (args .head .now) (args .n) (doubled-name .result) (doubled-name .ensures) (c .before .if1 .taken)
 
 id-wrong-requires : tie.Need-id-wrong-requires
 id-wrong-requires c κs = search needs
@@ -20,13 +23,19 @@ refuse-requires-2 : tie.Need-refuse-requires-2
 refuse-requires-2 c κs = search needs
 
 returns-2 : tie.Need-returns-2
-returns-2 c = (c .refuse2) .ensures ∙ names-id ((c .before .before .before .before .before .before .args) .head .now) ((c .before .before .before .before .before .before .args) .n) ((c .before .before .before .before .doubled-name) .result) ((c .before .before .before .before .doubled-name) .ensures) ((c .before .before .before .if1) .left) (sym ((c .before .before .id-wrong) .ensures) ∙ (c .before .if2) .taken)
+returns-2 c =
+    let args = c .before .before .before .before .before .before .args in
+    let doubled-name = c .before .before .before .before .doubled-name in
+    c .refuse2 .ensures ∙ names-id (args .head .now) (args .n) (doubled-name .result) (doubled-name .ensures) (c .before .before .before .if1 .left) (sym (c .before .before .id-wrong .ensures) ∙ c .before .if2 .taken)
 
 no-refusal-requires : tie.Need-no-refusal-requires
 no-refusal-requires c κs = search needs
 
 returns-3 : tie.Need-returns-3
-returns-3 c = (c .no-refusal) .ensures ∙ names-fine ((c .before .before .before .before .before .before .args) .head .now) ((c .before .before .before .before .before .before .args) .n) ((c .before .before .before .before .doubled-name) .result) ((c .before .before .before .before .doubled-name) .ensures) ((c .before .before .before .if1) .left) (sym ((c .before .before .id-wrong) .ensures) ∙ (c .before .if2) .left)
+returns-3 c =
+    let args = c .before .before .before .before .before .before .args in
+    let doubled-name = c .before .before .before .before .doubled-name in
+    c .no-refusal .ensures ∙ names-fine (args .head .now) (args .n) (doubled-name .result) (doubled-name .ensures) (c .before .before .before .if1 .left) (sym (c .before .before .id-wrong .ensures) ∙ c .before .if2 .left)
 
 pub judge-names-spec : {M : Type 1} → statement M
 judge-names-spec =

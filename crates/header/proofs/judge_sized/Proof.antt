@@ -19,13 +19,21 @@ refuse-requires : tie.Need-refuse-requires
 refuse-requires c κs = search needs
 
 returns : tie.Need-returns
-returns c = ap Refused ((c .refuse) .ensures) ∙ file-cut ((c .before .before .before .before .args) .file .now) ((c .before .before .before .before .pre) .0) ((c .before .before .before .before .args) .order) ((c .before .before .before .before .pre) .1) ((c .before .before .read4) .result) ((c .before .before .read4) .ensures) ((c .before .if1) .taken)
+returns c =
+    let args = c .before .before .before .before .args in
+    let pre = c .before .before .before .before .pre in
+    let read4 = c .before .before .read4 in
+    ap Refused (c .refuse .ensures) ∙ file-cut (args .file .now) (pre .0) (args .order) (pre .1) (read4 .result) (read4 .ensures) (c .before .if1 .taken)
 
 refuse-requires-2 : tie.Need-refuse-requires-2
 refuse-requires-2 c κs = search needs
 
 returns-2 : tie.Need-returns-2
-returns-2 c = ap Refused ((c .refuse2) .ensures) ∙ file-long ((c .before .before .before .before .before .args) .file .now) ((c .before .before .before .before .before .pre) .0) ((c .before .before .before .before .before .args) .order) ((c .before .before .before .before .before .pre) .1) ((c .before .before .before .read4) .result) ((c .before .before .before .read4) .ensures) ((c .before .before .if1) .left) ((c .before .if2) .taken)
+returns-2 c =
+    let args = c .before .before .before .before .before .args in
+    let pre = c .before .before .before .before .before .pre in
+    let read4 = c .before .before .before .read4 in
+    ap Refused (c .refuse2 .ensures) ∙ file-long (args .file .now) (pre .0) (args .order) (pre .1) (read4 .result) (read4 .ensures) (c .before .before .if1 .left) (c .before .if2 .taken)
 
 add-judge-text : tie.Need-add-judge-text
 add-judge-text c = search needs
@@ -43,7 +51,11 @@ judge-text-requires : tie.Need-judge-text-requires
 judge-text-requires c κs = search needs
 
 returns-3 : tie.Need-returns-3
-returns-3 c = rw sub-zero at ((c .judge-text) .ensures) ∙ file-text ((c .before .before .before .before .before .before .args) .file .now) ((c .before .before .before .before .before .before .pre) .0) ((c .before .before .before .before .before .before .args) .order) ((c .before .before .before .before .before .before .pre) .1) ((c .before .before .before .before .read4) .result) ((c .before .before .before .before .read4) .ensures) ((c .before .before .before .if1) .left) ((c .before .before .if2) .left)
+returns-3 c =
+    let args = c .before .before .before .before .before .before .args in
+    let pre = c .before .before .before .before .before .before .pre in
+    let read4 = c .before .before .before .before .read4 in
+    rw sub-zero at (c .judge-text .ensures) ∙ file-text (args .file .now) (pre .0) (args .order) (pre .1) (read4 .result) (read4 .ensures) (c .before .before .before .if1 .left) (c .before .before .if2 .left)
 
 pub judge-sized-spec : {M : Type 1} → statement M
 judge-sized-spec =

@@ -31,26 +31,31 @@ enum-known-i c = search needs
 
 add-refuse : tie.Need-add-refuse
 add-refuse c =
-    let s = (c .before .before .before .before .before .before .args) .head .now in
-    omega (arith, bad-within (drop 4 s) _ (scanned s _ _ ((c .before .before .before .scan-text) .ensures) ((c .before .i) .given .1)), length-drop 4 s)
+    let s = c .before .before .before .before .before .before .args .head .now in
+    omega (arith, bad-within (drop 4 s) _ (scanned s _ _ (c .before .before .before .scan-text .ensures) (c .before .i .given .1)), length-drop 4 s)
 
 refuse-requires : tie.Need-refuse-requires
 refuse-requires c κs = search needs
 
 returns : tie.Need-returns
 returns c =
-    let s = (c .before .before .before .before .before .before .before .before .before .args) .head .now in
-    text-sound ((c .before .before .before .before .before .before .before .before .before .args) .order) s _ _ ((c .before .before .judge-columns) .result) (scanned s _ _ ((c .before .before .before .before .before .before .scan-text) .ensures) ((c .before .before .before .before .n) .given .1)) ((c .before .before .judge-columns) .ensures) ((c .if1) .taken)
+    let args = c .before .before .before .before .before .before .before .before .before .args in
+    let judge-columns = c .before .before .judge-columns in
+    let s = args .head .now in
+    text-sound (args .order) s _ _ (judge-columns .result) (scanned s _ _ (c .before .before .before .before .before .before .scan-text .ensures) (c .before .before .before .before .n .given .1)) (judge-columns .ensures) (c .if1 .taken)
 
 returns-2 : tie.Need-returns-2
 returns-2 c =
-    let s = (c .before .before .before .before .before .before .before .before .before .args) .head .now in
-    text-refused ((c .before .before .before .before .before .before .before .before .before .args) .order) s _ _ ((c .before .before .judge-columns) .result) (scanned s _ _ ((c .before .before .before .before .before .before .scan-text) .ensures) ((c .before .before .before .before .n) .given .1)) ((c .before .before .judge-columns) .ensures) ((c .if1) .left)
+    let args = c .before .before .before .before .before .before .before .before .before .args in
+    let judge-columns = c .before .before .judge-columns in
+    let s = args .head .now in
+    text-refused (args .order) s _ _ (judge-columns .result) (scanned s _ _ (c .before .before .before .before .before .before .scan-text .ensures) (c .before .before .before .before .n .given .1)) (judge-columns .ensures) (c .if1 .left)
 
 returns-3 : tie.Need-returns-3
 returns-3 c =
-    let s = (c .before .before .before .before .before .before .before .args) .head .now in
-    ap Refused ((c .refuse) .ensures) ∙ text-bad ((c .before .before .before .before .before .before .before .args) .order) s _ _ (scanned s _ _ ((c .before .before .before .before .scan-text) .ensures) ((c .before .before .i) .given .1))
+    let args = c .before .before .before .before .before .before .before .args in
+    let s = args .head .now in
+    ap Refused (c .refuse .ensures) ∙ text-bad (args .order) s _ _ (scanned s _ _ (c .before .before .before .before .scan-text .ensures) (c .before .before .i .given .1))
 
 pub judge-text-spec : {M : Type 1} → statement M
 judge-text-spec =

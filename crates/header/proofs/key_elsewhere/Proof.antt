@@ -22,7 +22,9 @@ first-definition-requires : tie.Need-first-definition-requires Inv-loop μ-loop
 first-definition-requires c κs = search needs
 
 loop-holds : tie.Need-loop-holds Inv-loop μ-loop
-loop-holds c = (omega arith, at-first ((c .before .before .args) .head .now) _ ((c .first-definition) .ensures), none-start (otherKeyP ((c .before .before .args) .head .now) ((c .before .before .args) .id)))
+loop-holds c =
+    let args = c .before .before .args in
+    (omega arith, at-first (args .head .now) _ (c .first-definition .ensures), none-start (otherKeyP (args .head .now) (args .id)))
 
 definition-at-requires : tie.Need-definition-at-requires Inv-loop μ-loop
 definition-at-requires c κs = search needs
@@ -35,10 +37,11 @@ other-key-requires c κs = search needs
 
 returns : tie.Need-returns Inv-loop μ-loop
 returns c =
-    let s = (c .before .before .before .before .before .before .before .args) .head .now in
-    let b = (c .before .before .before .before .loop) in
-    let d = (c .before .before .definition-at) in
-    rw (lowest-found (otherKeyP s ((c .before .before .before .before .before .before .before .args) .id)) ((c .before .before .before .before .before .before .before .args) .n) (b .k) (omega arith) (b .inv .2) (key-tested s (b .k) (b .at) (d .result) (b .inv .1) (d .ensures .0) ((c .before .before .before .before .before .before .before .args) .id) _ ((c .before .other-key) .ensures) ∙ (c .if1) .taken)) (sym (lt-ltb 0 (suc (b .k)) (omega arith)))
+    let args = c .before .before .before .before .before .before .before .args in
+    let s = args .head .now in
+    let b = c .before .before .before .before .loop in
+    let d = c .before .before .definition-at in
+    rw (lowest-found (otherKeyP s (args .id)) (args .n) (b .k) (omega arith) (b .inv .2) (key-tested s (b .k) (b .at) (d .result) (b .inv .1) (d .ensures .0) (args .id) _ (c .before .other-key .ensures) ∙ c .if1 .taken)) (sym (lt-ltb 0 (suc (b .k)) (omega arith)))
 
 add-k : tie.Need-add-k Inv-loop μ-loop
 add-k c = search needs
@@ -48,17 +51,22 @@ loop-less c = search needs
 
 loop-again : tie.Need-loop-again Inv-loop μ-loop
 loop-again c =
-    let s = (c .before .before .before .before .before .before .before .args) .head .now in
-    let b = (c .before .before .before .before .loop) in
-    let d = (c .before .before .definition-at) in
-    (omega arith, at-next s (b .k) (b .at) (d .result) (b .inv .1) (d .ensures .0),
-    none-next (otherKeyP s ((c .before .before .before .before .before .before .before .args) .id)) (b .k) (b .inv .2) (key-tested s (b .k) (b .at) (d .result) (b .inv .1) (d .ensures .0) ((c .before .before .before .before .before .before .before .args) .id) _ ((c .before .other-key) .ensures) ∙ (c .if1) .left))
+    let args = c .before .before .before .before .before .before .before .args in
+    let s = args .head .now in
+    let b = c .before .before .before .before .loop in
+    let d = c .before .before .definition-at in (
+      omega arith,
+      at-next s (b .k) (b .at) (d .result) (b .inv .1) (d .ensures .0),
+      none-next (otherKeyP s (args .id)) (b .k) (b .inv .2) (key-tested s (b .k) (b .at) (d .result) (b .inv .1) (d .ensures .0) (args .id) _ (c .before .other-key .ensures) ∙ c .if1 .left),
+    )
 
 returns-2 : tie.Need-returns-2 Inv-loop μ-loop
 returns-2 c =
-    let p = otherKeyP ((c .before .before .before .before .args) .head .now) ((c .before .before .before .before .args) .id) in
-    let q : (c .before .loop) .k ≡ (c .before .before .before .before .args) .n = omega arith in
-    rw (lowest-nothing p ((c .before .before .before .before .args) .n) (rw q at ((c .before .loop) .inv .2)))
+    let args = c .before .before .before .before .args in
+    let loop = c .before .loop in
+    let p = otherKeyP (args .head .now) (args .id) in
+    let q : loop .k ≡ args .n = omega arith in
+    rw (lowest-nothing p (args .n) (rw q at (loop .inv .2)))
 
 pub key-elsewhere-spec : {M : Type 1} → statement M
 key-elsewhere-spec =

@@ -15,7 +15,7 @@ use Rattle.header.proofs.lay_columns.Statement.{statement}
 use Rattle.header.proofs.lay_columns.Tie as tie
 
 abbrev Inv-loop : tie.InvT-loop
-Inv-loop head n cols₀ at₀ bytes₀ varying₀ k₀ cols at bytes varying k = 
+Inv-loop head n cols₀ at₀ bytes₀ varying₀ k₀ cols at bytes varying k =
     (k ≤ n)
     × (at ≡ placeAfter head k)
     × (bytes ≡ bytesOfAll head k)
@@ -33,7 +33,7 @@ first-definition-requires : tie.Need-first-definition-requires Inv-loop μ-loop
 first-definition-requires c κs = search needs
 
 loop-holds : tie.Need-loop-holds Inv-loop μ-loop
-loop-holds c = (omega arith, at-first ((c .before .before .before .args) .head .now) _ ((c .first-definition) .ensures), refl, omega arith, refl, ap (λ (x : ColumnLayout). replicate mostColumns x) ((c .before .blank-column) .ensures))
+loop-holds c = (omega arith, at-first (c .before .before .before .args .head .now) _ (c .first-definition .ensures), refl, omega arith, refl, ap (λ (x : ColumnLayout). replicate mostColumns x) (c .before .blank-column .ensures))
 
 definition-at-requires : tie.Need-definition-at-requires Inv-loop μ-loop
 definition-at-requires c κs = search needs
@@ -61,21 +61,26 @@ loop-less c = search needs
 
 loop-again : tie.Need-loop-again Inv-loop μ-loop
 loop-again c =
-    let s = (c .before .before .before .before .before .before .before .before .before .args) .head .now in
-    let b = (c .before .before .before .before .before .loop) in
-    let d = (c .before .before .before .definition-at) in
-    let l = (c .before .before .lay-column) in
-    (omega arith, at-next s (b .k) (b .at) (d .result) (b .inv .1) (d .ensures .0),
-    bytes-next s (b .k) (b .at) (d .result) (b .inv .1) (d .ensures .0) (b .bytes) (l .result) (b .inv .2) (l .ensures .0),
-    omega (arith, l .ensures .1),
-    varies-next s (b .k) (b .at) (d .result) (b .inv .1) (d .ensures .0) (b .varying) _ (b .inv .4) ((c .either-varies) .ensures),
-    cols-next s (b .k) (b .at) (d .result) (b .inv .1) (d .ensures .0) (b .bytes) (l .result) (b .inv .2) (l .ensures .0) (b .cols) (omega (arith, (c .before .before .before .before .before .before .before .before .before .pre))) (b .inv .5))
+    let s = c .before .before .before .before .before .before .before .before .before .args .head .now in
+    let b = c .before .before .before .before .before .loop in
+    let d = c .before .before .before .definition-at in
+    let l = c .before .before .lay-column in (
+      omega arith,
+      at-next s (b .k) (b .at) (d .result) (b .inv .1) (d .ensures .0),
+      bytes-next s (b .k) (b .at) (d .result) (b .inv .1) (d .ensures .0) (b .bytes) (l .result) (b .inv .2) (l .ensures .0),
+      omega (arith, l .ensures .1),
+      varies-next s (b .k) (b .at) (d .result) (b .inv .1) (d .ensures .0) (b .varying) _ (b .inv .4) (c .either-varies .ensures),
+      cols-next s (b .k) (b .at) (d .result) (b .inv .1) (d .ensures .0) (b .bytes) (l .result) (b .inv .2) (l .ensures .0) (b .cols) (omega (arith, (c .before .before .before .before .before .before .before .before .before .pre))) (b .inv .5),
+    )
 
 width-of-requires : tie.Need-width-of-requires Inv-loop μ-loop
 width-of-requires c κs = search needs
 
 returns : tie.Need-returns Inv-loop μ-loop
-returns c = all-laid ((c .before .before .before .before .before .before .args) .head .now) ((c .before .before .before .before .before .before .args) .n) ((c .before .before .loop) .k) (omega arith) ((c .before .before .loop) .bytes) ((c .before .before .loop) .varying) ((c .width-of) .result) ((c .before .before .loop) .cols) ((c .before .before .loop) .inv .2) ((c .before .before .loop) .inv .4) ((c .width-of) .ensures) ((c .before .before .loop) .inv .5)
+returns c =
+    let args = c .before .before .before .before .before .before .args in
+    let loop = c .before .before .loop in
+    all-laid (args .head .now) (args .n) (loop .k) (omega arith) (loop .bytes) (loop .varying) (c .width-of .result) (loop .cols) (loop .inv .2) (loop .inv .4) (c .width-of .ensures) (loop .inv .5)
 
 pub lay-columns-spec : {M : Type 1} → statement M
 lay-columns-spec =

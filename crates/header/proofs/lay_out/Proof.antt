@@ -16,7 +16,11 @@ named-column-requires : tie.Need-named-column-requires
 named-column-requires c κs = search needs
 
 returns : tie.Need-returns
-returns c = laid-out ((c .before .before .before .before .before .before .args) .head .now) ((c .before .before .before .before .before .before .args) .facts) ((c .before .before .before .before .lay-columns) .result) ((c .named-column) .result) ((c .before .before .before .before .lay-columns) .ensures) ((c .named-column) .ensures)
+returns c =
+    let args = c .before .before .before .before .before .before .args in
+    let lay-columns = c .before .before .before .before .lay-columns in
+    let named-column = c .named-column in
+    laid-out (args .head .now) (args .facts) (lay-columns .result) (named-column .result) (lay-columns .ensures) (named-column .ensures)
 
 pub lay-out-spec : {M : Type 1} → statement M
 lay-out-spec =

@@ -21,13 +21,15 @@ first-definition-requires : tie.Need-first-definition-requires Inv-loop μ-loop
 first-definition-requires c κs = search needs
 
 loop-holds : tie.Need-loop-holds Inv-loop μ-loop
-loop-holds c = (omega arith, at-first ((c .before .before .before .args) .head .now) _ ((c .first-definition) .ensures), none-start (isNamed ((c .before .before .before .args) .head .now) ((c .before .before .before .args) .name .now)))
+loop-holds c =
+    let args = c .before .before .before .args in
+    (omega arith, at-first (args .head .now) _ (c .first-definition .ensures), none-start (isNamed (args .head .now) (args .name .now)))
 
 definition-at-requires : tie.Need-definition-at-requires Inv-loop μ-loop
 definition-at-requires c κs = search needs
 
 has-name-requires : tie.Need-has-name-requires Inv-loop μ-loop
-has-name-requires c κs = rw ((c .before .definition-at) .ensures .0) (name-within ((c .before .before .before .before .before .before .before .args) .head .now) ((c .before .before .before .loop) .at))
+has-name-requires c κs = rw (c .before .definition-at .ensures .0) (name-within (c .before .before .before .before .before .before .before .args .head .now) (c .before .before .before .loop .at))
 
 add-result : tie.Need-add-result Inv-loop μ-loop
 add-result c = search needs
@@ -35,10 +37,11 @@ add-result c = search needs
 returns : tie.Need-returns Inv-loop μ-loop
 unfolding columnNamed
 returns c =
-    let s = (c .before .before .before .before .before .before .before .before .before .args) .head .now in
-    let b = (c .before .before .before .before .before .loop) in
-    let d = (c .before .before .before .definition-at) in
-    lowest-next (isNamed s ((c .before .before .before .before .before .before .before .before .before .args) .name .now)) ((c .before .before .before .before .before .before .before .before .before .args) .n) (b .k) (omega arith) (b .inv .2) (name-tested s (b .k) (b .at) (d .result) (b .inv .1) (d .ensures .0) ((c .before .before .before .before .before .before .before .before .before .args) .name .now) _ ((c .before .has-name) .ensures) ∙ (c .if1) .taken)
+    let args = c .before .before .before .before .before .before .before .before .before .args in
+    let s = args .head .now in
+    let b = c .before .before .before .before .before .loop in
+    let d = c .before .before .before .definition-at in
+    lowest-next (isNamed s (args .name .now)) (args .n) (b .k) (omega arith) (b .inv .2) (name-tested s (b .k) (b .at) (d .result) (b .inv .1) (d .ensures .0) (args .name .now) _ (c .before .has-name .ensures) ∙ c .if1 .taken)
 
 add-k : tie.Need-add-k Inv-loop μ-loop
 add-k c = search needs
@@ -48,18 +51,23 @@ loop-less c = search needs
 
 loop-again : tie.Need-loop-again Inv-loop μ-loop
 loop-again c =
-    let s = (c .before .before .before .before .before .before .before .before .before .args) .head .now in
-    let b = (c .before .before .before .before .before .loop) in
-    let d = (c .before .before .before .definition-at) in
-    (omega arith, at-next s (b .k) (b .at) (d .result) (b .inv .1) (d .ensures .0),
-    none-next (isNamed s ((c .before .before .before .before .before .before .before .before .before .args) .name .now)) (b .k) (b .inv .2) (name-tested s (b .k) (b .at) (d .result) (b .inv .1) (d .ensures .0) ((c .before .before .before .before .before .before .before .before .before .args) .name .now) _ ((c .before .has-name) .ensures) ∙ (c .if1) .left))
+    let args = c .before .before .before .before .before .before .before .before .before .args in
+    let s = args .head .now in
+    let b = c .before .before .before .before .before .loop in
+    let d = c .before .before .before .definition-at in (
+      omega arith,
+      at-next s (b .k) (b .at) (d .result) (b .inv .1) (d .ensures .0),
+      none-next (isNamed s (args .name .now)) (b .k) (b .inv .2) (name-tested s (b .k) (b .at) (d .result) (b .inv .1) (d .ensures .0) (args .name .now) _ (c .before .has-name .ensures) ∙ c .if1 .left),
+    )
 
 returns-2 : tie.Need-returns-2 Inv-loop μ-loop
 unfolding columnNamed
 returns-2 c =
-    let p = isNamed ((c .before .before .before .before .before .args) .head .now) ((c .before .before .before .before .before .args) .name .now) in
-    let q : (c .before .loop) .k ≡ (c .before .before .before .before .before .args) .n = omega arith in
-    sym (lowest-nothing p ((c .before .before .before .before .before .args) .n) (rw q at ((c .before .loop) .inv .2)))
+    let args = c .before .before .before .before .before .args in
+    let loop = c .before .loop in
+    let p = isNamed (args .head .now) (args .name .now) in
+    let q : loop .k ≡ args .n = omega arith in
+    sym (lowest-nothing p (args .n) (rw q at (loop .inv .2)))
 
 pub named-column-spec : {M : Type 1} → statement M
 named-column-spec =

@@ -38,13 +38,17 @@ loop-less c = search needs
 
 loop-again : tie.Need-loop-again Inv-loop μ-loop
 loop-again c =
-    let s = (c .before .before .before .before .before .args) .head .now in
-    let b = (c .before .before .before .loop) in
-    let q = rw (← (c .digit-of) .ensures .0) at (sym (decimal-next s ((c .before .before .before .before .before .args) .p) ((c .before .before .before .before .before .args) .e) (b .i) (b .value) (omega arith) (omega arith)) ∙ b .inv .1) in
-    (decimal-bound s ((c .before .before .before .before .before .args) .p) ((c .before .before .before .before .before .args) .e) (b .i + 1) (b .value * 10 + (c .digit-of) .result) (λ k. omega (arith, (c .before .before .before .before .shared-slice-known) .given k)) (omega arith) q, q)
+    let args = c .before .before .before .before .before .args in
+    let s = args .head .now in
+    let b = c .before .before .before .loop in
+    let q = rw (← c .digit-of .ensures .0) at (sym (decimal-next s (args .p) (args .e) (b .i) (b .value) (omega arith) (omega arith)) ∙ b .inv .1) in
+    (decimal-bound s (args .p) (args .e) (b .i + 1) (b .value * 10 + c .digit-of .result) (λ k. omega (arith, c .before .before .before .before .shared-slice-known .given k)) (omega arith) q, q)
 
 returns : tie.Need-returns Inv-loop μ-loop
-returns c = (decimal-done ((c .before .before .before .args) .head .now) ((c .before .before .before .args) .p) ((c .before .before .before .args) .e) ((c .before .loop) .i) ((c .before .loop) .value) (omega arith) ∙ (c .before .loop) .inv .1, (c .before .loop) .inv .0)
+returns c =
+    let args = c .before .before .before .args in
+    let loop = c .before .loop in
+    (decimal-done (args .head .now) (args .p) (args .e) (loop .i) (loop .value) (omega arith) ∙ loop .inv .1, loop .inv .0)
 
 pub number-from-spec : {M : Type 1} → statement M
 number-from-spec =

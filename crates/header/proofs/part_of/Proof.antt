@@ -15,7 +15,9 @@ part-result-end : tie.Need-part-result-end
 part-result-end c = search needs
 
 returns : tie.Need-returns
-returns c = let z : (c .before .before .args) .end - (c .before .before .args) .start ≡ 0 = omega arith in rw z
+returns c =
+    let args = c .before .before .args in
+    let z : args .end - args .start ≡ 0 = omega arith in rw z
 
 part-result-start-2 : tie.Need-part-result-start-2
 part-result-start-2 c = search needs

@@ -17,7 +17,7 @@ first-definition-requires : tie.Need-first-definition-requires Inv-loop μ-loop
 first-definition-requires c κs = search needs
 
 loop-holds : tie.Need-loop-holds Inv-loop μ-loop
-loop-holds c = (omega arith, at-first ((c .before .before .args) .head .now) _ ((c .first-definition) .ensures))
+loop-holds c = (omega arith, at-first (c .before .before .args .head .now) _ (c .first-definition .ensures))
 
 definition-at-requires : tie.Need-definition-at-requires Inv-loop μ-loop
 definition-at-requires c κs = search needs
@@ -29,10 +29,16 @@ loop-less : tie.Need-loop-less Inv-loop μ-loop
 loop-less c = search needs
 
 loop-again : tie.Need-loop-again Inv-loop μ-loop
-loop-again c = (omega arith, at-next ((c .before .before .before .before .before .args) .head .now) ((c .before .before .loop) .i) ((c .before .before .loop) .at) ((c .definition-at) .result) ((c .before .before .loop) .inv .1) ((c .definition-at) .ensures .0))
+loop-again c =
+    let loop = c .before .before .loop in
+    let definition-at = c .definition-at in
+    (omega arith, at-next (c .before .before .before .before .before .args .head .now) (loop .i) (loop .at) (definition-at .result) (loop .inv .1) (definition-at .ensures .0))
 
 returns : tie.Need-returns Inv-loop μ-loop
-returns c = let q : (c .before .loop) .i ≡ (c .before .before .before .before .args) .k = omega arith in (c .before .loop) .inv .1 ∙ ap (placeAfter ((c .before .before .before .before .args) .head .now)) q
+returns c =
+    let loop = c .before .loop in
+    let args = c .before .before .before .before .args in
+    let q : loop .i ≡ args .k = omega arith in loop .inv .1 ∙ ap (placeAfter (args .head .now)) q
 
 pub place-after-spec : {M : Type 1} → statement M
 place-after-spec =

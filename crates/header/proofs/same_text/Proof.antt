@@ -15,10 +15,12 @@ abbrev μ-loop : tie.MeasureT-loop
 μ-loop a b i₀ i = length a - i
 
 returns : tie.Need-returns Inv-loop μ-loop
-returns c = same-length ((c .before .before .before .args) .a .now) ((c .before .before .before .args) .b .now) ((c .if1) .taken)
+returns c =
+    let args = c .before .before .before .args in
+    same-length (args .a .now) (args .b .now) (c .if1 .taken)
 
 loop-holds : tie.Need-loop-holds Inv-loop μ-loop
-loop-holds c = ((c .if1) .left, refl)
+loop-holds c = (c .if1 .left, refl)
 
 shared-slice-read-lower-of : tie.Need-shared-slice-read-lower-of Inv-loop μ-loop
 shared-slice-read-lower-of c = search needs
@@ -33,7 +35,10 @@ lower-of-requires-2 : tie.Need-lower-of-requires-2 Inv-loop μ-loop
 lower-of-requires-2 c κs = search needs
 
 returns-2 : tie.Need-returns-2 Inv-loop μ-loop
-returns-2 c = same-stop ((c .before .before .before .before .before .before .before .before .before .before .args) .a .now) ((c .before .before .before .before .before .before .before .before .before .before .args) .b .now) ((c .before .before .before .before .before .before .loop) .i) (omega arith) ((c .before .before .before .before .before .before .loop) .inv .0) (λ e. (c .if2) .taken ((c .before .before .before .lower-of) .ensures ∙ e ∙ sym ((c .before .lower-of2) .ensures))) ∙ (c .before .before .before .before .before .before .loop) .inv .1
+returns-2 c =
+    let args = c .before .before .before .before .before .before .before .before .before .before .args in
+    let loop = c .before .before .before .before .before .before .loop in
+    same-stop (args .a .now) (args .b .now) (loop .i) (omega arith) (loop .inv .0) (λ e. c .if2 .taken (c .before .before .before .lower-of .ensures ∙ e ∙ sym (c .before .lower-of2 .ensures))) ∙ loop .inv .1
 
 add-i : tie.Need-add-i Inv-loop μ-loop
 add-i c = search needs
@@ -42,10 +47,16 @@ loop-less : tie.Need-loop-less Inv-loop μ-loop
 loop-less c = search needs
 
 loop-again : tie.Need-loop-again Inv-loop μ-loop
-loop-again c = ((c .before .before .before .before .before .before .loop) .inv .0, same-next ((c .before .before .before .before .before .before .before .before .before .before .args) .a .now) ((c .before .before .before .before .before .before .before .before .before .before .args) .b .now) ((c .before .before .before .before .before .before .loop) .i) (omega arith) ((c .before .before .before .before .before .before .loop) .inv .0) (sym ((c .before .before .before .lower-of) .ensures) ∙ (c .if2) .left ∙ (c .before .lower-of2) .ensures) ∙ (c .before .before .before .before .before .before .loop) .inv .1)
+loop-again c =
+    let loop = c .before .before .before .before .before .before .loop in
+    let args = c .before .before .before .before .before .before .before .before .before .before .args in
+    (loop .inv .0, same-next (args .a .now) (args .b .now) (loop .i) (omega arith) (loop .inv .0) (sym (c .before .before .before .lower-of .ensures) ∙ c .if2 .left ∙ c .before .lower-of2 .ensures) ∙ loop .inv .1)
 
 returns-3 : tie.Need-returns-3 Inv-loop μ-loop
-returns-3 c = same-end ((c .before .before .before .before .before .args) .a .now) ((c .before .before .before .before .before .args) .b .now) ((c .before .loop) .i) (omega arith) ((c .before .loop) .inv .0) ∙ (c .before .loop) .inv .1
+returns-3 c =
+    let args = c .before .before .before .before .before .args in
+    let loop = c .before .loop in
+    same-end (args .a .now) (args .b .now) (loop .i) (omega arith) (loop .inv .0) ∙ loop .inv .1
 
 pub same-text-spec : {M : Type 1} → statement M
 same-text-spec =

@@ -21,7 +21,10 @@ shared-slice-read-if1 : tie.Need-shared-slice-read-if1 Inv-loop μ-loop
 shared-slice-read-if1 c = search needs
 
 returns : tie.Need-returns Inv-loop μ-loop
-returns c = (seek-here ((c .before .before .before .before .args) .head .now) ((c .before .before .before .loop) .i) ((c .before .before .before .before .args) .byte) (omega arith) ((c .if1) .taken) ∙ (c .before .before .before .loop) .inv, omega arith)
+returns c =
+    let args = c .before .before .before .before .args in
+    let loop = c .before .before .before .loop in
+    (seek-here (args .head .now) (loop .i) (args .byte) (omega arith) (c .if1 .taken) ∙ loop .inv, omega arith)
 
 add-i : tie.Need-add-i Inv-loop μ-loop
 add-i c = search needs
@@ -30,10 +33,16 @@ loop-less : tie.Need-loop-less Inv-loop μ-loop
 loop-less c = search needs
 
 loop-again : tie.Need-loop-again Inv-loop μ-loop
-loop-again c = seek-next ((c .before .before .before .before .args) .head .now) ((c .before .before .before .loop) .i) ((c .before .before .before .before .args) .byte) (omega arith) ((c .if1) .left) ∙ (c .before .before .before .loop) .inv
+loop-again c =
+    let args = c .before .before .before .before .args in
+    let loop = c .before .before .before .loop in
+    seek-next (args .head .now) (loop .i) (args .byte) (omega arith) (c .if1 .left) ∙ loop .inv
 
 returns-2 : tie.Need-returns-2 Inv-loop μ-loop
-returns-2 c = (seek-end ((c .before .before .args) .head .now) ((c .before .loop) .i) ((c .before .before .args) .byte) (omega arith) ∙ (c .before .loop) .inv, omega arith)
+returns-2 c =
+    let args = c .before .before .args in
+    let loop = c .before .loop in
+    (seek-end (args .head .now) (loop .i) (args .byte) (omega arith) ∙ loop .inv, omega arith)
 
 pub seek-byte-spec : {M : Type 1} → statement M
 seek-byte-spec =

@@ -22,11 +22,15 @@ cast-result : tie.Need-cast-result
 cast-result c = search needs
 
 mul-result : tie.Need-mul-result
-mul-result c = omega (arith, size-room ((c .before .before .before .before .before .args) .d .count) ((c .before .width) .result) ((c .before .before .before .before .before .pre)) ((c .before .width) .ensures .1))
+mul-result c =
+    let width = c .before .width in
+    omega (arith, size-room (c .before .before .before .before .before .args .d .count) (width .result) (c .before .before .before .before .before .pre) (width .ensures .1))
 
 returns-2 : tie.Need-returns-2
 unfolding fieldSize
-returns-2 c = (simp (← c .before .width .ensures .0, ← c .before .before .kind-of .ensures, c .before .before .before .if1 .left, ← c .before .before .before .before .is-varying .ensures), omega (arith, size-room (c .before .before .before .before .before .args .d .count) (c .before .width .result) (c .before .before .before .before .before .pre) (c .before .width .ensures .1)))
+returns-2 c =
+    let width = c .before .width in
+    (simp (← width .ensures .0, ← c .before .before .kind-of .ensures, c .before .before .before .if1 .left, ← c .before .before .before .before .is-varying .ensures), omega (arith, size-room (c .before .before .before .before .before .args .d .count) (width .result) (c .before .before .before .before .before .pre) (width .ensures .1)))
 
 pub size-of-spec : {M : Type 1} → statement M
 size-of-spec =

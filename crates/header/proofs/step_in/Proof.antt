@@ -20,13 +20,19 @@ first-definition-requires : tie.Need-first-definition-requires Inv-loop μ-loop
 first-definition-requires c κs = search needs
 
 loop-holds : tie.Need-loop-holds Inv-loop μ-loop
-loop-holds c = (omega arith, at-first ((c .before .before .args) .head .now) _ ((c .first-definition) .ensures), none-start (standsAt ((c .before .before .args) .head .now) ((c .before .before .args) .place)))
+loop-holds c =
+    let args = c .before .before .args in
+    (omega arith, at-first (args .head .now) _ (c .first-definition .ensures), none-start (standsAt (args .head .now) (args .place)))
 
 definition-at-requires : tie.Need-definition-at-requires Inv-loop μ-loop
 definition-at-requires c κs = search needs
 
 returns : tie.Need-returns Inv-loop μ-loop
-returns c = step-column ((c .before .before .before .before .before .before .args) .head .now) ((c .before .before .before .before .before .before .args) .place) ((c .before .before .before .loop) .k) ((c .before .before .before .loop) .at) ((c .before .before .before .loop) .inv .2) ((c .before .before .before .loop) .inv .1) ((c .before .before .before .before .before .before .args) .n) ((c .before .definition-at) .result) (omega arith) ((c .if1) .taken) ((c .before .definition-at) .ensures .0)
+returns c =
+    let args = c .before .before .before .before .before .before .args in
+    let loop = c .before .before .before .loop in
+    let definition-at = c .before .definition-at in
+    step-column (args .head .now) (args .place) (loop .k) (loop .at) (loop .inv .2) (loop .inv .1) (args .n) (definition-at .result) (omega arith) (c .if1 .taken) (definition-at .ensures .0)
 
 add-k : tie.Need-add-k Inv-loop μ-loop
 add-k c = search needs
@@ -35,16 +41,26 @@ loop-less : tie.Need-loop-less Inv-loop μ-loop
 loop-less c = search needs
 
 loop-again : tie.Need-loop-again Inv-loop μ-loop
-loop-again c = (omega arith, at-next ((c .before .before .before .before .before .before .args) .head .now) ((c .before .before .before .loop) .k) ((c .before .before .before .loop) .at) ((c .before .definition-at) .result) ((c .before .before .before .loop) .inv .1) ((c .before .definition-at) .ensures .0), not-here ((c .before .before .before .before .before .before .args) .head .now) ((c .before .before .before .before .before .before .args) .place) ((c .before .before .before .loop) .k) ((c .before .before .before .loop) .at) ((c .before .before .before .loop) .inv .2) ((c .before .before .before .loop) .inv .1) ((c .if1) .left))
+loop-again c =
+    let args = c .before .before .before .before .before .before .args in
+    let loop = c .before .before .before .loop in
+    let definition-at = c .before .definition-at in
+    (omega arith, at-next (args .head .now) (loop .k) (loop .at) (definition-at .result) (loop .inv .1) (definition-at .ensures .0), not-here (args .head .now) (args .place) (loop .k) (loop .at) (loop .inv .2) (loop .inv .1) (c .if1 .left))
 
 returns-2 : tie.Need-returns-2 Inv-loop μ-loop
-returns-2 c = step-done ((c .before .before .before .before .before .args) .head .now) ((c .before .before .before .before .before .args) .place) ((c .before .before .loop) .k) ((c .before .before .loop) .at) ((c .before .before .loop) .inv .2) ((c .before .before .loop) .inv .1) ((c .before .before .before .before .before .args) .n) (omega arith) (omega arith) ((c .if2) .taken)
+returns-2 c =
+    let args = c .before .before .before .before .before .args in
+    let loop = c .before .before .loop in
+    step-done (args .head .now) (args .place) (loop .k) (loop .at) (loop .inv .2) (loop .inv .1) (args .n) (omega arith) (omega arith) (c .if2 .taken)
 
 refuse-requires : tie.Need-refuse-requires Inv-loop μ-loop
 refuse-requires c κs = search needs
 
 returns-3 : tie.Need-returns-3 Inv-loop μ-loop
-returns-3 c = step-none ((c .before .before .before .before .before .before .args) .head .now) ((c .before .before .before .before .before .before .args) .place) ((c .before .before .before .loop) .k) ((c .before .before .before .loop) .at) ((c .before .before .before .loop) .inv .2) ((c .before .before .before .loop) .inv .1) ((c .before .before .before .before .before .before .args) .n) ((c .refuse) .result) (omega arith) (omega arith) ((c .before .if2) .left) ((c .refuse) .ensures)
+returns-3 c =
+    let args = c .before .before .before .before .before .before .args in
+    let loop = c .before .before .before .loop in
+    step-none (args .head .now) (args .place) (loop .k) (loop .at) (loop .inv .2) (loop .inv .1) (args .n) (c .refuse .result) (omega arith) (omega arith) (c .before .if2 .left) (c .refuse .ensures)
 
 pub step-in-spec : {M : Type 1} → statement M
 step-in-spec =
