@@ -4,3 +4,4 @@ pub mod Judge
 pub mod Layouts
 pub mod Steps
 pub mod Words
+pub mod Stages
