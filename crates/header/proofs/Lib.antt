@@ -7,3 +7,11 @@ pub mod RefusedExactly
 pub mod StepsInOrder
 pub mod LayoutMeans
 pub mod ColumnOfName
+pub mod PlaceLaws
+pub mod CountLaws
+pub mod NameLaws
+pub mod StepLaws
+pub mod JudgeLaws
+pub mod LayoutLaws
+pub mod HeaderLaws
+pub mod Examples

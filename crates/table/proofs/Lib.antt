@@ -11,3 +11,5 @@ pub mod FieldExactly
 pub mod RowExactly
 pub mod ColumnBytes
 pub mod ValueOfRow
+pub mod SignedLaws
+pub mod ValueLaws

@@ -1,0 +1,52 @@
+use Rattle.header.proofs.HeaderLaws.{accepted-step, refused-step}
+use Rattle.header.proofs.JudgeLaws.{sound-passed, refused-by}
+use native.Mathlib.Omega.{arith}
+use mathlib.Core.Path.{sym, _∙_}
+use borrow.Author.Needs.{needs}
+use Rattle.header.proofs.column_step.Statement.{statement}
+use Rattle.header.proofs.column_step.Tie as tie
+
+judge-file-requires : tie.Need-judge-file-requires
+judge-file-requires c κs = search needs
+
+enum-known-facts : tie.Need-enum-known-facts
+enum-known-facts c = search needs
+
+sub-step-in : tie.Need-sub-step-in
+sub-step-in c = search needs
+
+part-step-in-start : tie.Need-part-step-in-start
+part-step-in-start c = search needs
+
+part-step-in-end : tie.Need-part-step-in-end
+part-step-in-end c = let p = sound-passed (c .before .before .before .before .before .args .file .now) _ (sym (c .before .before .before .judge-file .ensures) ∙ c .before .facts .given .1) in omega (arith, p .fits)
+
+step-in-requires : tie.Need-step-in-requires
+step-in-requires c κs = let p = sound-passed (c .before .before .before .before .before .before .args .file .now) _ (sym (c .before .before .before .before .judge-file .ensures) ∙ c .before .before .facts .given .1) in omega (arith, p .short)
+
+enum-known-q : tie.Need-enum-known-q
+enum-known-q c = search needs
+
+returns : tie.Need-returns
+returns c =
+    let args = c .before .before .before .before .before .before .before .args in
+    let p = sound-passed (args .file .now) _ (sym (c .before .before .before .before .before .judge-file .ensures) ∙ c .before .before .before .facts .given .1) in c .step-in .ensures ∙ accepted-step (args .file .now) _ p (args .place)
+
+returns-2 : tie.Need-returns-2
+returns-2 c =
+    let args = c .before .before .before .before .before .args in
+    let q = refused-by (args .file .now) _ (sym (c .before .before .before .judge-file .ensures) ∙ c .before .q .given .1) in refused-step (args .file .now) _ q (args .place)
+
+pub column-step-spec : {M : Type 1} → statement M
+column-step-spec =
+    tie.close
+    (tie.spec
+    judge-file-requires
+    enum-known-facts
+    sub-step-in
+    part-step-in-start
+    part-step-in-end
+    step-in-requires
+    enum-known-q
+    returns
+    returns-2)

@@ -1,0 +1,52 @@
+use Rattle.header.proofs.HeaderLaws.{accepted-column, refused-column}
+use Rattle.header.proofs.JudgeLaws.{sound-passed, refused-by}
+use native.Mathlib.Omega.{arith}
+use mathlib.Core.Path.{sym, _∙_}
+use borrow.Author.Needs.{needs}
+use Rattle.header.proofs.find_column.Statement.{statement}
+use Rattle.header.proofs.find_column.Tie as tie
+
+judge-file-requires : tie.Need-judge-file-requires
+judge-file-requires c κs = search needs
+
+enum-known-facts : tie.Need-enum-known-facts
+enum-known-facts c = search needs
+
+sub-named-column : tie.Need-sub-named-column
+sub-named-column c = search needs
+
+part-named-column-start : tie.Need-part-named-column-start
+part-named-column-start c = search needs
+
+part-named-column-end : tie.Need-part-named-column-end
+part-named-column-end c = let p = sound-passed (c .before .before .before .before .before .before .args .file .now) _ (sym (c .before .before .before .judge-file .ensures) ∙ c .before .facts .given .1) in omega (arith, p .fits)
+
+named-column-requires : tie.Need-named-column-requires
+named-column-requires c κs = let p = sound-passed (c .before .before .before .before .before .before .before .args .file .now) _ (sym (c .before .before .before .before .judge-file .ensures) ∙ c .before .before .facts .given .1) in omega (arith, p .short)
+
+enum-told : tie.Need-enum-told
+enum-told c = search needs
+
+returns : tie.Need-returns
+returns c =
+    let args = c .before .before .before .before .before .before .before .before .args in
+    let p = sound-passed (args .file .now) _ (sym (c .before .before .before .before .before .judge-file .ensures) ∙ c .before .before .before .facts .given .1) in c .named-column .ensures ∙ accepted-column (args .file .now) _ p (args .name .now)
+
+returns-2 : tie.Need-returns-2
+returns-2 c =
+    let args = c .before .before .before .before .before .args in
+    let q = refused-by (args .file .now) _ (sym (c .before .before .judge-file .ensures) ∙ c .enum-told .given .1) in refused-column (args .file .now) _ q (args .name .now)
+
+pub find-column-spec : {M : Type 1} → statement M
+find-column-spec =
+    tie.close
+    (tie.spec
+    judge-file-requires
+    enum-known-facts
+    sub-named-column
+    part-named-column-start
+    part-named-column-end
+    named-column-requires
+    enum-told
+    returns
+    returns-2)

@@ -1,0 +1,67 @@
+use Rattle.header.proofs.CountLaws.{decimal-next, decimal-done, decimal-bound}
+use Rattle.header.specs.Stages.{greatestCount}
+use Rattle.header.specs.Places.{decimal}
+use lib.ListN.{take, drop}
+use native.Mathlib.Omega.{arith}
+use Prim.Native.Nat.{_+_, _-_, _*_, _≤_}
+use mathlib.Core.Path.{_≡_, refl, sym, _∙_}
+use borrow.Author.Needs.{needs}
+use Rattle.header.proofs.number_from.Statement.{statement}
+use Rattle.header.proofs.number_from.Tie as tie
+
+abbrev Inv-loop : tie.InvT-loop
+Inv-loop head p e value₀ i₀ value i = (value ≤ greatestCount) × (decimal value (take (e - i) (drop i head)) ≡ decimal 0 (take (e - p) (drop p head)))
+
+abbrev μ-loop : tie.MeasureT-loop
+μ-loop head p e value₀ i₀ value i = e - i
+
+loop-holds : tie.Need-loop-holds Inv-loop μ-loop
+loop-holds c = (omega arith, refl)
+
+mul-value : tie.Need-mul-value Inv-loop μ-loop
+mul-value c = search needs
+
+shared-slice-read-digit-of : tie.Need-shared-slice-read-digit-of Inv-loop μ-loop
+shared-slice-read-digit-of c = search needs
+
+digit-of-requires : tie.Need-digit-of-requires Inv-loop μ-loop
+digit-of-requires c κs = search needs
+
+add-value : tie.Need-add-value Inv-loop μ-loop
+add-value c = search needs
+
+add-i : tie.Need-add-i Inv-loop μ-loop
+add-i c = search needs
+
+loop-less : tie.Need-loop-less Inv-loop μ-loop
+loop-less c = search needs
+
+loop-again : tie.Need-loop-again Inv-loop μ-loop
+loop-again c =
+    let args = c .before .before .before .before .before .args in
+    let s = args .head .now in
+    let b = c .before .before .before .loop in
+    let q = rw (← c .digit-of .ensures .0) at (sym (decimal-next s (args .p) (args .e) (b .i) (b .value) (omega arith) (omega arith)) ∙ b .inv .1) in
+    (decimal-bound s (args .p) (args .e) (b .i + 1) (b .value * 10 + c .digit-of .result) (λ k. omega (arith, c .before .before .before .before .shared-slice-known .given k)) (omega arith) q, q)
+
+returns : tie.Need-returns Inv-loop μ-loop
+returns c =
+    let args = c .before .before .before .args in
+    let loop = c .before .loop in
+    (decimal-done (args .head .now) (args .p) (args .e) (loop .i) (loop .value) (omega arith) ∙ loop .inv .1, loop .inv .0)
+
+pub number-from-spec : {M : Type 1} → statement M
+number-from-spec =
+    tie.close
+    (tie.spec
+    Inv-loop
+    μ-loop
+    loop-holds
+    mul-value
+    shared-slice-read-digit-of
+    digit-of-requires
+    add-value
+    add-i
+    loop-less
+    loop-again
+    returns)
