@@ -82,6 +82,12 @@ front-ext g h n d e = ap (λ (r : List ℕ). r ++ drop n d) (listed-ext g h n e)
 pub front-over : (g h : ℕ → ℕ) (n : ℕ) (d : List ℕ) → front g n (front h n d) ≡ front g n d
 front-over g h n d = ap (λ (r : List ℕ). listed g n ++ r) (drop-at (listed h n) (drop n d) n (length-listed h n))
 
+-- zeros are 0 everywhere
+pub getD-zeros : (n i : ℕ) → _≡_ {A = ℕ} (getD (replicate n 0) i 0) 0
+getD-zeros zero i = refl
+getD-zeros (suc n) zero = refl
+getD-zeros (suc n) (suc i) = getD-zeros n i
+
 -- ---- a list of n elements, all x at first, that a loop fills from the front; k are filled
 pub length-oneTo : {A : Type 0} (f : ℕ → A) (n : ℕ) → length (oneTo f n) ≡ n
 length-oneTo f zero = refl
@@ -102,9 +108,3 @@ oneTo-next f d n k x v h q e =
     let m : n - k ≡ suc (n - suc k) = omega arith in
     let r = replicate (n - suc k) x in
     rw (add-one k, q, m, e) (set-at (oneTo f k) x r (f (suc k)) k (length-oneTo f k) ∙ sym (append-assoc (oneTo f k) (f (suc k) ∷ []) r))
-
--- zeros are 0 everywhere
-pub getD-zeros : (n i : ℕ) → _≡_ {A = ℕ} (getD (replicate n 0) i 0) 0
-getD-zeros zero i = refl
-getD-zeros (suc n) zero = refl
-getD-zeros (suc n) (suc i) = getD-zeros n i

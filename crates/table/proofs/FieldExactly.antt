@@ -109,7 +109,7 @@ field-exactly o s end c at p h =
 
 module _ (s : List ℕ) (l : Layout) (start end : ℕ) (first : start ≤ end) (last : end ≤ length s) where
   -- a walk that came through has come past each column
-  came : (x : Reach) (f : ℕ → Reach) (p : ℕ) → onward x f ≡ At p → x ≡ At (placeOf x)
+  pub came : (x : Reach) (f : ℕ → Reach) (p : ℕ) → onward x f ≡ At p → x ≡ At (placeOf x)
   came (At q) f p e = refl
   came Short f p e = clash (cc)
   came (Cut q) f p e = clash (cc)
@@ -125,19 +125,17 @@ module _ (s : List ℕ) (l : Layout) (start end : ℕ) (first : start ≤ end) (
   next-field n p q e =
       rw e (field-exactly (l .order) s end (columnAt l (suc n)) p q (reach-within s l start end n p first last e))
 
+  -- the field of each column that the walk came past
+  pub field-at : (n p : ℕ) → reach s l start end n ≡ At p → (k : ℕ) → In n k
+      → FieldEnds (l .order) s end (layoutAt l k) (placeOfColumn s l start end k) (placeOfColumn s l start end (suc k))
+  field-at n p e zero i = absurd (omega (arith, i .0))
+  field-at n p e (suc k) i =
+      next-field k (placeOf (reach s l start end k)) (placeOf (reach s l start end (suc k))) (passed n p e k (omega (arith, i .1))) .0
+      (passed n p e (suc k) (i .1))
+
   -- THE WALK COMES TO THE ROW'S END EXACTLY WHEN the fields use exactly its bytes
   pub walk-fields : reach s l start end (l .columns) ≡ At end → Fields s l start end (placeOfColumn s l start end)
-  walk-fields e = record {
-    first = refl;
-    next = λ k i. step k i;
-    last = ap placeOf e;
-  }
-    where
-      step : (k : ℕ) → In (l .columns) k → FieldEnds (l .order) s end (layoutAt l k) (placeOfColumn s l start end k) (placeOfColumn s l start end (suc k))
-      step zero i = absurd (omega (arith, i .0))
-      step (suc k) i =
-          next-field k (placeOf (reach s l start end k)) (placeOf (reach s l start end (suc k))) (passed (l .columns) end e k (omega (arith, i .1))) .0
-          (passed (l .columns) end e (suc k) (i .1))
+  walk-fields e = record { first = refl; next = field-at (l .columns) end e; last = ap placeOf e }
 
   pub fields-walk : (place : ℕ → ℕ) → Fields s l start end place → (k : ℕ) → k ≤ l .columns → reach s l start end k ≡ At (place (suc k))
   fields-walk place f zero i = ap At (sym (f .first))

@@ -9,3 +9,7 @@ pub mod FoundLaws
 pub mod OpeningLaws
 pub mod FieldExactly
 pub mod RowExactly
+pub mod ColumnBytes
+pub mod ValueOfRow
+pub mod SignedLaws
+pub mod ValueLaws

@@ -101,75 +101,77 @@ module _ (file index : List ℕ) (most : ℕ) (h : Reading) (n : ℕ) (o : Opens
     pub inside-file : end ≤ length file
     inside-file = row-inside file index most h n o i r .2
 
-    -- ---- a table of one width: the fields follow one another by their sizes and end with the row
+    -- a table of one width: the fields, one after the other by their sizes, end with the row
     sizes-fit : OneWidth file → (k : ℕ) → k ≤ l .columns → start + sum sizes k ≤ end
     sizes-fit w k a = omega (arith, row-width file index most h n o w i r, width-sum w, sum-first sizes (l .columns) k a)
 
-    reach-fixed : OneWidth file → (k : ℕ) → k ≤ l .columns → reach file l start end k ≡ At (start + sum sizes k)
-    reach-fixed w zero a = ap At (omega arith)
-    reach-fixed w (suc k) a =
-        let f = fixed-column w (suc k) (omega arith, a) in
-        next-field file l start end forward inside-file k (start + sum sizes k) (start + sum sizes (suc k)) (reach-fixed w k (omega arith)) .1
-        (inr (inr (record { kind = f .0; no-star = f .1; ends = omega arith; inside = sizes-fit w (suc k) a })))
+    -- ---- the bytes s of the row: the file's, or any others that reach as far
+    module _ (s : List ℕ) (inside : end ≤ length s) where
+      reach-fixed : OneWidth file → (k : ℕ) → k ≤ l .columns → reach s l start end k ≡ At (start + sum sizes k)
+      reach-fixed w zero a = ap At (omega arith)
+      reach-fixed w (suc k) a =
+          let f = fixed-column w (suc k) (omega arith, a) in
+          next-field s l start end forward inside k (start + sum sizes k) (start + sum sizes (suc k)) (reach-fixed w k (omega arith)) .1
+          (inr (inr (record { kind = f .0; no-star = f .1; ends = omega arith; inside = sizes-fit w (suc k) a })))
 
-    -- BY THE OPENING the walk comes to the end of such a row
-    pub fixed-reach : OneWidth file → reach file l start end (l .columns) ≡ At end
-    fixed-reach w =
-        reach-fixed w (l .columns) (omega arith) ∙ ap At (omega (arith, row-width file index most h n o w i r, width-sum w))
+      -- BY THE OPENING the walk comes to the end of such a row
+      pub fixed-reach : OneWidth file → reach s l start end (l .columns) ≡ At end
+      fixed-reach w =
+          reach-fixed w (l .columns) (omega arith) ∙ ap At (omega (arith, row-width file index most h n o w i r, width-sum w))
 
-    -- THE PLACE BY OFFSET IS THAT OF THE WALK
-    fixed-place : OneWidth file → (k : ℕ) → In (l .columns) k → offsetPlace l start end k ≡ placeOfColumn file l start end k
-    fixed-place w k c =
-        let e = ap placeOf (reach-fixed w (pred k) (omega (arith, c .1))) in
-        omega (arith, e, means .offset k c, sizes-fit w (pred k) (omega (arith, c .1)))
+      -- THE PLACE BY OFFSET IS THAT OF THE WALK
+      fixed-place : OneWidth file → (k : ℕ) → In (l .columns) k → offsetPlace l start end k ≡ placeOfColumn s l start end k
+      fixed-place w k c =
+          let e = ap placeOf (reach-fixed w (pred k) (omega (arith, c .1))) in
+          omega (arith, e, means .offset k c, sizes-fit w (pred k) (omega (arith, c .1)))
 
-    pub place-by-walk : (k : ℕ) → In (l .columns) k → columnPlace file l start end k ≡ placeOfColumn file l start end k
-    unfolding columnPlace
-    place-by-walk k c =
-        bool-cases (needsIndex l) (λ t. rw t) (λ t. let z = eqb-false (l .width) 0 t in rw t (fixed-place (omega arith) k c))
+      pub place-by-walk : (k : ℕ) → In (l .columns) k → columnPlace s l start end k ≡ placeOfColumn s l start end k
+      unfolding columnPlace
+      place-by-walk k c =
+          bool-cases (needsIndex l) (λ t. rw t) (λ t. let z = eqb-false (l .width) 0 t in rw t (fixed-place (omega arith) k c))
 
-    -- THE JUDGEMENT OF A ROW is that of its walk, whatever the width
-    abbrev byWalk : Refusal
-    byWalk = usedUp (reach file l start end (l .columns)) end i (idRefusal file l (placeOfColumn file l start end (l .id)) i)
+      -- THE JUDGEMENT OF A ROW is that of its walk, whatever the width
+      abbrev byWalk : Refusal
+      byWalk = usedUp (reach s l start end (l .columns)) end i (idRefusal s l (placeOfColumn s l start end (l .id)) i)
 
-    fields-by-walk : fieldsRefusal file l start end i ≡ byWalk
-    unfolding fieldsRefusal
-    fields-by-walk =
-        bool-cases (needsIndex l)
-        (λ t. rw (t, columns-all, place-by-walk (l .id) (means .id-within)))
-        (λ t.
-        let z = eqb-false (l .width) 0 t in
-        rw (t, place-by-walk (l .id) (means .id-within), fixed-reach (omega arith), eq-eqb end end refl))
+      fields-by-walk : fieldsRefusal s l start end i ≡ byWalk
+      unfolding fieldsRefusal
+      fields-by-walk =
+          bool-cases (needsIndex l)
+          (λ t. rw (t, columns-all, place-by-walk (l .id) (means .id-within)))
+          (λ t.
+          let z = eqb-false (l .width) 0 t in
+          rw (t, place-by-walk (l .id) (means .id-within), fixed-reach (omega arith), eq-eqb end end refl))
 
-    pub row-by-walk : rowRefusal file l start end i ≡ byWalk
-    unfolding rowRefusal
-    row-by-walk =
-        rw (not-outside file start end forward inside-file, columns-all, there (l .columns) (l .id) (means .id-within))
-        (first-passes fine (fieldsRefusal file l start end i) refl ∙ fields-by-walk)
+      pub row-by-walk : rowRefusal s l start end i ≡ byWalk
+      unfolding rowRefusal
+      row-by-walk =
+          rw (not-outside s start end forward inside, columns-all, there (l .columns) (l .id) (means .id-within))
+          (first-passes fine (fieldsRefusal s l start end i) refl ∙ fields-by-walk)
 
-    -- A ROW IS FINE EXACTLY WHEN it is right in words
-    pub row-exactly : (rowRefusal file l start end i .number ≡ 0) ↔ RowRight file l start end i
-    row-exactly =
-        let w = used-up-exactly (reach file l start end (l .columns)) end i (idRefusal file l (placeOfColumn file l start end (l .id)) i) in
-        let d = id-exactly file l (placeOfColumn file l start end (l .id)) i in (
-          λ e.
-              let q = w .0 (ap (λ (x : Refusal). x .number) (sym row-by-walk) ∙ e) in
-              record {
-                place = placeOfColumn file l start end;
-                fields = walk-fields file l start end forward inside-file (q .0);
-                id = d .0 (q .1);
-              },
-          λ x.
-              let p = place-found file l start end forward inside-file (x .place) (x .fields) (l .id) (means .id-within .0, omega (arith, means .id-within .1)) in
-              ap (λ (x : Refusal). x .number) row-by-walk
-              ∙ w .1 (fields-end file l start end forward inside-file (x .place) (x .fields), d .1 (ap (λ (k : ℕ). number (l .order) file k 4) p ∙ x .id)),
-        )
+      -- A ROW IS FINE EXACTLY WHEN it is right in words
+      pub row-exactly : (rowRefusal s l start end i .number ≡ 0) ↔ RowRight s l start end i
+      row-exactly =
+          let w = used-up-exactly (reach s l start end (l .columns)) end i (idRefusal s l (placeOfColumn s l start end (l .id)) i) in
+          let d = id-exactly s l (placeOfColumn s l start end (l .id)) i in (
+            λ e.
+                let q = w .0 (ap (λ (x : Refusal). x .number) (sym row-by-walk) ∙ e) in
+                record {
+                  place = placeOfColumn s l start end;
+                  fields = walk-fields s l start end forward inside (q .0);
+                  id = d .0 (q .1);
+                },
+            λ x.
+                let p = place-found s l start end forward inside (x .place) (x .fields) (l .id) (means .id-within .0, omega (arith, means .id-within .1)) in
+                ap (λ (x : Refusal). x .number) row-by-walk
+                ∙ w .1 (fields-end s l start end forward inside (x .place) (x .fields), d .1 (ap (λ (k : ℕ). number (l .order) s k 4) p ∙ x .id)),
+          )
 
     -- THE ROW is handed out where it lies exactly when it is right
     abbrev opened : Table
     opened = record { layout = l; rows = n }
 
-    row-there : noSuchRow opened i ≡ false
+    pub row-there : noSuchRow opened i ≡ false
     row-there = there (min n mostRows) i (r .0, omega (arith, r .1, o .row-limit))
 
     pub row-of-exactly : (rowOf file index opened i ≡ Between start end) ↔ RowRight file l start end i
@@ -177,5 +179,5 @@ module _ (file index : List ℕ) (most : ℕ) (h : Reading) (n : ℕ) (o : Opens
     row-of-exactly =
         rw row-there
         (bool-cases (eqb (rowRefusal file l start end i .number) 0)
-        (λ t. rw t (λ e. row-exactly .0 (eqb-true (rowRefusal file l start end i .number) 0 t), λ x. refl))
-        (λ t. rw t (λ e. clash (cc), λ x. absurd (eqb-false (rowRefusal file l start end i .number) 0 t (row-exactly .1 x)))))
+        (λ t. rw t (λ e. row-exactly file inside-file .0 (eqb-true (rowRefusal file l start end i .number) 0 t), λ x. refl))
+        (λ t. rw t (λ e. clash (cc), λ x. absurd (eqb-false (rowRefusal file l start end i .number) 0 t (row-exactly file inside-file .1 x)))))

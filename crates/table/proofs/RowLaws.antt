@@ -1,5 +1,5 @@
 -- What the tests before a row's fields say: that the row lies inside the file, that a column or row is there. Assumes nothing.
-use mathlib.Core.Path.{_≡_}
+use mathlib.Core.Path.{_≡_, sym, ap, _∙_}
 use mathlib.Core.Bool.{Bool, false}
 use mathlib.Core.List.{List}
 use Prim.Native.Nat.{ℕ, _≤_, _<_}
@@ -9,10 +9,12 @@ use lib.ListN.{length}
 use borrow.Author.Tests.{eqb-false, ltb-false}
 use Rattle.laws.proofs.LowestLaws.{bool-cases}
 use Rattle.laws.proofs.TestLaws.{both-false, clash}
+use Rattle.refusal.specs.declared.Refusal.{Refusal}
+use Rattle.refusal.proofs.OrderLaws.{first-passes, first-refuses}
 use Rattle.header.specs.declared.Layout.{Layout}
 use Rattle.table.specs.declared.Table.{Table}
 use Rattle.table.specs.Opening.{mostRows}
-use Rattle.table.specs.Rows.{rowsOf, noSuchRow, noSuch, noSuchColumn, outside, placeRefusal}
+use Rattle.table.specs.Rows.{rowsOf, noSuchRow, noSuch, noSuchColumn, outside, fieldsRefusal, placeRefusal, rowRefusal}
 
 -- a row that is not outside the file
 pub inside : (s : List ℕ) (start end : ℕ) → outside s start end ≡ false → (start ≤ end) × (end ≤ length s)
@@ -35,9 +37,10 @@ row-there t n i b e f g =
     (h, k .0, omega (arith, k .1))
 
 -- fields can be looked for
-pub place-fine : (s : List ℕ) (l : Layout) (start end i : ℕ) → placeRefusal s l start end i .number ≡ 0
+pub place-fine : (s : List ℕ) (l : Layout) (start end i : ℕ) (q : Refusal) → q ≡ placeRefusal s l start end i → q .number ≡ 0
     → (outside s start end ≡ false) × (noSuchColumn l (l .id) ≡ false)
-place-fine s l start end i e =
+place-fine s l start end i q u z =
+    let e : placeRefusal s l start end i .number ≡ 0 = rw (← u) z in
     bool-cases (outside s start end)
     (λ t. clash (ten (rw t at e)))
     (λ t. bool-cases (noSuchColumn l (l .id)) (λ u. clash (nine (rw (t, u) at e))) (λ u. (t, u)))
@@ -46,3 +49,13 @@ place-fine s l start end i e =
     ten e = omega arith
     nine : _≡_ {A = ℕ} 9 0 → _≡_ {A = ℕ} 0 1
     nine e = omega arith
+
+module _ (s : List ℕ) (l : Layout) (start end i : ℕ) where
+  -- the row's judgement is the refusal before its fields, or else that of its fields
+  pub judged-early : (q : Refusal) → q ≡ placeRefusal s l start end i → (q .number ≡ 0 → ⊥) → q ≡ rowRefusal s l start end i
+  unfolding rowRefusal
+  judged-early q e h = rw (← e) (sym (first-refuses q (fieldsRefusal s l start end i) h))
+
+  pub judged-late : (q x : Refusal) → q ≡ placeRefusal s l start end i → q .number ≡ 0 → x ≡ fieldsRefusal s l start end i → x ≡ rowRefusal s l start end i
+  unfolding rowRefusal
+  judged-late q x e h f = rw (← e, ← f) (sym (first-passes q x h))

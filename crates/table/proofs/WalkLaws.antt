@@ -7,11 +7,13 @@ use native.Mathlib.Omega.{arith}
 use native.Mathlib.Numerals.{add-one}
 use native.Mathlib.Decide.{decLe}
 use lib.ListN.{length, getD, set}
+use Rattle.laws.proofs.LowestLaws.{bool-cases}
 use Rattle.header.specs.declared.Layout.{Layout}
 use Rattle.table.specs.declared.Reach.{Reach}
 use Rattle.table.specs.declared.Reach.the-variants.{At, Short, Cut}
 use Rattle.table.specs.declared.Places.{Places}
-use Rattle.table.specs.Rows.{fieldEnd, columnAt, onward, reach, slotOf, keep, placesKept, walked}
+use Rattle.table.specs.Opening.{needsIndex}
+use Rattle.table.specs.Rows.{fieldEnd, columnAt, onward, reach, placeOf, columnPlace, slotOf, keep, placesKept, walked}
 use Rattle.table.proofs.FieldLaws.{field-within}
 
 module _ (s : List ℕ) (l : Layout) (start end : ℕ) where
@@ -38,6 +40,19 @@ module _ (s : List ℕ) (l : Layout) (start end : ℕ) where
   pub reach-within : (n p : ℕ) → start ≤ end → end ≤ length s → reach s l start end n ≡ At p → p ≤ end
   reach-within zero p h k e = let q : start ≡ p = cc in omega arith
   reach-within (suc n) p h k e = within-go (reach s l start end n) n p refl e k (λ q u. reach-within n q h k u)
+
+  -- and so does the place of each column
+  place-go : (x : Reach) → ((p : ℕ) → x ≡ At p → p ≤ end) → placeOf x ≤ end
+  place-go (At p) h = h p refl
+  place-go Short h = omega arith
+  place-go (Cut q) h = omega arith
+
+  pub place-within : (k : ℕ) → start ≤ end → end ≤ length s → columnPlace s l start end k ≤ end
+  unfolding columnPlace
+  place-within k h i =
+      bool-cases (needsIndex l)
+      (λ t. rw t (place-go (reach s l start end (pred k)) (λ p e. reach-within (pred k) p h i e)))
+      (λ t. rw t (omega arith))
 
   module _ (slots : List ℕ) where
     -- the place of the next column is kept

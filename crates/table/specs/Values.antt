@@ -78,19 +78,39 @@ valueOf file index t i k =
     (inRow (rowOf file index t i)
     (λ start end. shown (t .layout .order) file (columnAt (t .layout) k) (columnPlace file (t .layout) start end k) end)))
 
--- the part of the file that a value shows; nothing for a value that shows none
-abbrev pub partOf : List ℕ → Value → List ℕ
-partOf file (Text p n) = take n (drop p file)
-partOf file (Date p n) = take n (drop p file)
-partOf file (Coordinates p n) = take n (drop p file)
-partOf file (Short v) = []
-partOf file ShortNull = []
-partOf file (Integer v) = []
-partOf file IntegerNull = []
-partOf file (Float b) = []
-partOf file (FloatNull b) = []
-partOf file (Double b) = []
-partOf file (DoubleNull b) = []
-partOf file (Triplet ids) = []
-partOf file Empty = []
-partOf file (Refused q) = []
+-- where the part of the file starts that a value shows, and how many bytes it has; none of a value that shows none
+abbrev pub shownStart : Value → ℕ
+shownStart (Text p n) = p
+shownStart (Date p n) = p
+shownStart (Coordinates p n) = p
+shownStart (Short v) = 0
+shownStart ShortNull = 0
+shownStart (Integer v) = 0
+shownStart IntegerNull = 0
+shownStart (Float b) = 0
+shownStart (FloatNull b) = 0
+shownStart (Double b) = 0
+shownStart (DoubleNull b) = 0
+shownStart (Triplet ids) = 0
+shownStart Empty = 0
+shownStart (Refused q) = 0
+
+abbrev pub shownBytes : Value → ℕ
+shownBytes (Text p n) = n
+shownBytes (Date p n) = n
+shownBytes (Coordinates p n) = n
+shownBytes (Short v) = 0
+shownBytes ShortNull = 0
+shownBytes (Integer v) = 0
+shownBytes IntegerNull = 0
+shownBytes (Float b) = 0
+shownBytes (FloatNull b) = 0
+shownBytes (Double b) = 0
+shownBytes (DoubleNull b) = 0
+shownBytes (Triplet ids) = 0
+shownBytes Empty = 0
+shownBytes (Refused q) = 0
+
+-- THE PART SHOWN; past the end of the file it is cut
+unfoldable pub partOf : List ℕ → Value → List ℕ
+partOf file v = take (shownBytes v) (drop (shownStart v) file)

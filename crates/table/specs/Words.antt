@@ -1,4 +1,5 @@
--- "Rows and index" in the paper's words: when a table opens, what each refusal of the opening says, and when a row is right.
+-- "Rows and index" in the paper's words: when a table opens, what each refusal of the opening says, when a row is right, and which
+-- bytes a value depends on.
 use mathlib.Core.Path.{_≡_}
 use mathlib.Core.Logic.{_⊎_}
 use mathlib.Core.Bool.{true, false}
@@ -19,6 +20,8 @@ use Rattle.header.specs.Layouts.{headerOf}
 use Rattle.header.specs.Words.{columnAt, AcceptedHeader}
 use Rattle.header.specs.LayoutWords.{Varies, layoutAt}
 use Rattle.header.specs.Refusals as header
+use Rattle.table.specs.declared.Value.{Value}
+use Rattle.table.specs.declared.Value.the-variants as value
 use Rattle.table.specs.Opening.{mostRows, entriesSaid, headerSize, offsetAt, lengthAt, endAt, rowsSaid}
 
 -- ---- when a table opens
@@ -179,3 +182,28 @@ pub record RowRight (s : List ℕ) (l : Layout) (start end i : ℕ) : Type 0 whe
   pub place : ℕ → ℕ
   pub fields : Fields s l start end place
   pub id : number (l .order) s (place (l .id)) 4 ≡ i
+
+-- ---- a value and the bytes of its row
+
+-- s and t have the same bytes from start to end
+pub record SameRow (s t : List ℕ) (start end : ℕ) : Type 0 where
+  pub in-first : end ≤ length s
+  pub in-second : end ≤ length t
+  pub same : take (end - start) (drop start s) ≡ take (end - start) (drop start t)
+
+-- "Text and date are shown as parts of the caller's file": the part that a value shows lies from start to end
+abbrev pub PartInside : ℕ → ℕ → Value → Type 0
+PartInside start end (value.Text p n) = (start ≤ p) × (p + n ≤ end)
+PartInside start end (value.Date p n) = (start ≤ p) × (p + n ≤ end)
+PartInside start end (value.Coordinates p n) = (start ≤ p) × (p + n ≤ end)
+PartInside start end (value.Short v) = Unit {0}
+PartInside start end value.ShortNull = Unit {0}
+PartInside start end (value.Integer v) = Unit {0}
+PartInside start end value.IntegerNull = Unit {0}
+PartInside start end (value.Float b) = Unit {0}
+PartInside start end (value.FloatNull b) = Unit {0}
+PartInside start end (value.Double b) = Unit {0}
+PartInside start end (value.DoubleNull b) = Unit {0}
+PartInside start end (value.Triplet ids) = Unit {0}
+PartInside start end value.Empty = Unit {0}
+PartInside start end (value.Refused q) = Unit {0}

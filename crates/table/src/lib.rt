@@ -2,12 +2,15 @@
 ghost use mathlib.Core.Path.{_≡_};
 ghost use mathlib.Core.Bool.{false};
 ghost use Prim.Native.Nat.{min, _+_, _-_, _*_, _≤_, _<_};
-ghost use lib.ListN.{length, getD, set};
+ghost use lib.ListN.{length, set, take, drop};
 ghost use Rattle.field.specs.Fields.{widest};
+ghost use Rattle.triplet.specs.Triplet.{tripletOf};
 ghost use Rattle.header.specs.Judge.{mostColumns};
 ghost use Rattle.header.specs.Layouts.{blankColumn};
+ghost use Rattle.field.specs.Nulls.{shortHalf, integerHalf, signed};
 ghost use Rattle.table.specs.Opening.{mostRows, endAt};
-ghost use Rattle.table.specs.Rows.{columnsOf, noSuch, noSuchColumn, outside, columnAt, boundOf, plainEnd, starEnd, tripletEnd, fieldEnd, walked, slotsFor, keptFor, placesOf, foundOf, idRefusal, usedUp, columnPlace, offsetPlace, fieldsRefusal, placeRefusal, rowRefusal, rowOf};
+ghost use Rattle.table.specs.Rows.{columnsOf, noSuch, noSuchColumn, outside, columnAt, boundOf, plainEnd, starEnd, tripletEnd, fieldEnd, walked, slotsFor, keptFor, placesOf, foundOf, idRefusal, usedUp, columnPlace, offsetPlace, fieldsRefusal, placeRefusal, rowRefusal, unlessRefused, rowOf};
+ghost use Rattle.table.specs.Values.{shortOf, integerOf, floatOf, doubleOf, elementsStart, elementsBytes, tripletOfRead, shown, inRow, valueOf, shownStart, shownBytes, partOf};
 
 use field::FieldType;
 use header::Answer;
@@ -407,4 +410,223 @@ pub fn read_row(file: &[u8], index: &[u8], table: Table, row: usize) -> Row
         return Row::Between(start, end);
     }
     Row::Refused(judged)
+}
+
+// ---- values
+
+// The numbers of patterns of two and of four bytes, in two's complement.
+fn signed_short(bits: u16) -> i16
+    ensures { λ r. ⌜ r ≡ signed shortHalf bits ⌝ }
+{
+    if bits < 0x8000 {
+        return bits as i16;
+    }
+    -1 - (0xffff - bits) as i16
+}
+
+fn signed_integer(bits: u32) -> i32
+    ensures { λ r. ⌜ r ≡ signed integerHalf bits ⌝ }
+{
+    if bits < 0x8000_0000 {
+        return bits as i32;
+    }
+    -1 - (0xffff_ffff - bits) as i32
+}
+
+// A value of each type that has a null, from its bytes.
+fn short_value(bits: u16) -> Value
+    ensures { λ r. ⌜ r ≡ shortOf bits ⌝ }
+{
+    if field::Short::is_null(bits) {
+        return Value::ShortNull;
+    }
+    Value::Short(signed_short(bits))
+}
+
+fn integer_value(bits: u32) -> Value
+    ensures { λ r. ⌜ r ≡ integerOf bits ⌝ }
+{
+    if field::Integer::is_null(bits) {
+        return Value::IntegerNull;
+    }
+    Value::Integer(signed_integer(bits))
+}
+
+fn float_value(bits: u32) -> Value
+    ensures { λ r. ⌜ r ≡ floatOf bits ⌝ }
+{
+    if field::Float::is_null(bits) {
+        return Value::FloatNull(bits);
+    }
+    Value::Float(bits)
+}
+
+fn double_value(bits: u64) -> Value
+    ensures { λ r. ⌜ r ≡ doubleOf bits ⌝ }
+{
+    if field::Double::is_null(bits) {
+        return Value::DoubleNull(bits);
+    }
+    Value::Double(bits)
+}
+
+fn triplet_value(file: &[u8], place: usize, end: usize, order: Order) -> Value
+    requires { ⌜ (place ≤ end) × (end ≤ length (now file)) ⌝ }
+    ensures { λ r. ⌜ r ≡ tripletOfRead (tripletOf order (take (end - place) (drop place (now (file .entry))))) ⌝ }
+{
+    match triplet::read(&file[place..end], order) {
+        Triplet::Is(ids, _) => Value::Triplet(ids),
+        Triplet::Refused(q) => Value::Refused(q),
+    }
+}
+
+// Where the elements of a field start, and how many bytes they have: a `*` field begins with their count.
+fn elements_start(column: ColumnLayout, place: usize, end: usize) -> usize
+    requires { ⌜ place ≤ end ⌝ }
+    ensures { λ r. ⌜ r ≡ elementsStart column place end ⌝ }
+{
+    if column.star {
+        if end - place < 4 {
+            return end;
+        }
+        return place + 4;
+    }
+    place
+}
+
+fn elements_bytes(file: &[u8], column: ColumnLayout, place: usize, order: Order) -> usize
+    ensures { λ r. ⌜ r ≡ elementsBytes order (now (file .entry)) column place ⌝ }
+{
+    if column.star {
+        let kind = column.kind;
+        return number::read4(file, place, order) as usize * kind.width();
+    }
+    column.size as usize
+}
+
+// The value of the field at a place, by its column's type.
+fn show(file: &[u8], column: ColumnLayout, place: usize, end: usize, order: Order) -> Value
+    requires { ⌜ (place ≤ end) × (end ≤ length (now file)) ⌝ }
+    ensures { λ r. ⌜ r ≡ shown order (now (file .entry)) column place end ⌝ }
+{
+    let kind = column.kind;
+    let start = elements_start(column, place, end);
+    let bytes = elements_bytes(file, column, place, order);
+    match kind {
+        FieldType::Text => Value::Text(start, bytes),
+        FieldType::Latin => Value::Text(start, bytes),
+        FieldType::Float => float_value(number::read4(file, place, order)),
+        FieldType::Double => double_value(number::read8(file, place, order)),
+        FieldType::Short => short_value(number::read2(file, place, order)),
+        FieldType::Integer => integer_value(number::read4(file, place, order)),
+        FieldType::ShortPair => Value::Coordinates(start, bytes),
+        FieldType::ShortTriple => Value::Coordinates(start, bytes),
+        FieldType::DoublePair => Value::Coordinates(start, bytes),
+        FieldType::DoubleTriple => Value::Coordinates(start, bytes),
+        FieldType::Date => Value::Date(place, field::Date::WIDTH),
+        FieldType::NullField => Value::Empty,
+        FieldType::Triplet => triplet_value(file, place, end, order),
+    }
+}
+
+// The value of a column in the row between two places: the row judged first.
+fn value_between(file: &[u8], layout: Layout, start: usize, end: usize, row: usize, column: usize) -> Value
+    requires { ⌜ noSuchColumn layout column ≡ false ⌝ }
+    ensures {
+        λ r. ⌜ r ≡ inRow (unlessRefused (rowRefusal (now (file .entry)) layout start end row) start end)
+        (λ start end. shown (layout .order) (now (file .entry)) (columnAt layout column) (columnPlace (now (file .entry)) layout start end column) end) ⌝
+    }
+{
+    let early = judge_place(file, layout, start, end, row);
+    if early.number != 0 {
+        return Value::Refused(early);
+    }
+    let found = find_column(file, layout, start, end, row, column);
+    let judged = found.refusal;
+    if judged.number != 0 {
+        return Value::Refused(judged);
+    }
+    let order = layout.order;
+    show(file, layout.cols[column - 1], found.place, end, order)
+}
+
+// The value of a column in row i: 13 for the row, 13 for the column, the row's own refusals, then the value.
+pub fn read_value(file: &[u8], index: &[u8], table: Table, row: usize, column: usize) -> Value
+    ensures { λ r. ⌜ r ≡ valueOf (now (file .entry)) (now (index .entry)) table row column ⌝ }
+{
+    if no_such(lesser(table.rows, MOST_ROWS), row) {
+        return Value::Refused(refusal::refuse(NO_SUCH, row));
+    }
+    let layout = table.layout;
+    if no_such(count_columns(layout), column) {
+        return Value::Refused(refusal::refuse(NO_SUCH, column));
+    }
+    let start = bound_of(index, layout, row - 1);
+    let end = bound_of(index, layout, row);
+    value_between(file, layout, start, end, row, column)
+}
+
+// ---- parts shown
+
+// A part of what is lent, cut where it ends.
+fn part<'a>(file: &'a [u8], start: usize, bytes: usize) -> &'a [u8]
+    ensures { λ r. ⌜ now r ≡ take bytes (drop start (now (file .entry))) ⌝ }
+{
+    if file.len() <= start {
+        return &file[0..0];
+    }
+    if file.len() - start < bytes {
+        return &file[start..file.len()];
+    }
+    &file[start..start + bytes]
+}
+
+// Where the part starts that a value shows, and how many bytes it has: none of a value that shows none.
+fn shown_start(shown: Value) -> usize
+    ensures { λ r. ⌜ r ≡ shownStart shown ⌝ }
+{
+    match shown {
+        Value::Text(p, _) => p,
+        Value::Date(p, _) => p,
+        Value::Coordinates(p, _) => p,
+        Value::Short(_) => 0,
+        Value::ShortNull => 0,
+        Value::Integer(_) => 0,
+        Value::IntegerNull => 0,
+        Value::Float(_) => 0,
+        Value::FloatNull(_) => 0,
+        Value::Double(_) => 0,
+        Value::DoubleNull(_) => 0,
+        Value::Triplet(_) => 0,
+        Value::Empty => 0,
+        Value::Refused(_) => 0,
+    }
+}
+
+fn shown_bytes(shown: Value) -> usize
+    ensures { λ r. ⌜ r ≡ shownBytes shown ⌝ }
+{
+    match shown {
+        Value::Text(_, n) => n,
+        Value::Date(_, n) => n,
+        Value::Coordinates(_, n) => n,
+        Value::Short(_) => 0,
+        Value::ShortNull => 0,
+        Value::Integer(_) => 0,
+        Value::IntegerNull => 0,
+        Value::Float(_) => 0,
+        Value::FloatNull(_) => 0,
+        Value::Double(_) => 0,
+        Value::DoubleNull(_) => 0,
+        Value::Triplet(_) => 0,
+        Value::Empty => 0,
+        Value::Refused(_) => 0,
+    }
+}
+
+// "Text and date are shown as parts of the caller's file, not copied."
+pub fn part_of<'a>(file: &'a [u8], shown: Value) -> &'a [u8]
+    ensures { λ r. ⌜ now r ≡ partOf (now (file .entry)) shown ⌝ }
+{
+    part(file, shown_start(shown), shown_bytes(shown))
 }

@@ -1,8 +1,7 @@
+use mathlib.Core.Path.{ap}
 use Rattle.table.specs.declared.Found.{Found}
-use Rattle.table.specs.Rows.{rowRefusal, foundOf, placeRefusal, fieldsRefusal}
-use mathlib.Core.Path.{_≡_, sym, ap, _∙_}
-use Rattle.refusal.proofs.OrderLaws.{first-passes, first-refuses}
-use Rattle.table.proofs.RowLaws.{place-fine}
+use Rattle.table.specs.Rows.{foundOf}
+use Rattle.table.proofs.RowLaws.{place-fine, judged-early, judged-late}
 use borrow.Author.Needs.{needs}
 use Rattle.table.proofs.judge_row.Statement.{statement}
 use Rattle.table.proofs.judge_row.Tie as tie
@@ -11,30 +10,27 @@ use Rattle.table.proofs.judge_row.Lts as lts
 use Rattle.table.proofs.find_column.Reads as find-column-reads
 use Rattle.table.proofs.judge_place.Reads as judge-place-reads
 
--- src/lib.rt:354:9
+-- src/lib.rt:357:9
 judge-place-requires : tie.Need-judge-place-requires
 judge-place-requires c κs = search needs
 
--- src/lib.rt:356:9
+-- src/lib.rt:359:9
 returns : tie.Need-returns
-unfolding rowRefusal
-returns c = rw (← (c .before .before .judge-place) .ensures) (sym (first-refuses _ _ ((c .if1) .taken)))
+returns c = let s = (c .before .before .before .before .args) in judged-early (s .file .now) (s .layout) (s .start) (s .end) (s .row) _ ((c .before .before .judge-place) .ensures) ((c .if1) .taken)
 
--- src/lib.rt:358:9
+-- src/lib.rt:361:9
 find-column-requires : tie.Need-find-column-requires
 find-column-requires c κs =
     let s = (c .before .before .before .before .args) in
-    let h = place-fine (s .file .now) (s .layout) (s .start) (s .end) (s .row) (sym (ap (λ q. q .number) ((c .before .before .judge-place) .ensures)) ∙ (c .if1) .left) in
+    let h = place-fine (s .file .now) (s .layout) (s .start) (s .end) (s .row) _ ((c .before .before .judge-place) .ensures) ((c .if1) .left) in
     (h .0, (h .1, h .1))
 
--- src/lib.rt:351:1
+-- src/lib.rt:354:1
 returns-2 : tie.Need-returns-2
-unfolding rowRefusal foundOf
+unfolding foundOf
 returns-2 c =
     let s = (c .before .before .before .before .before .before .args) in
-    ap (λ (f : Found). f .refusal) ((c .before .find-column) .ensures)
-    ∙ sym (first-passes (placeRefusal (s .file .now) (s .layout) (s .start) (s .end) (s .row)) (fieldsRefusal (s .file .now) (s .layout) (s .start) (s .end) (s .row))
-    (sym (ap (λ q. q .number) ((c .before .before .before .before .judge-place) .ensures)) ∙ (c .before .before .if1) .left))
+    judged-late (s .file .now) (s .layout) (s .start) (s .end) (s .row) _ _ ((c .before .before .before .before .judge-place) .ensures) ((c .before .before .if1) .left) (ap (λ (f : Found). f .refusal) ((c .before .find-column) .ensures))
 
 pub judge-row-spec : {M : Type 1} → statement M
 judge-row-spec = tie.close (tie.spec judge-place-requires returns find-column-requires returns-2)
