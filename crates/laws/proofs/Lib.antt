@@ -9,3 +9,5 @@ pub mod LanguageLaws
 pub mod SeparatorLaws
 pub mod LentLaws
 pub mod ForemostLaws
+pub mod EntryLaws
+pub mod PieceLaws

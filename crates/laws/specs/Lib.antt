@@ -6,3 +6,4 @@ pub mod Marks
 pub mod Machine
 pub mod Language
 pub mod Foremost
+pub mod Pieces
