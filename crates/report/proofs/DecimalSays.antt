@@ -57,6 +57,7 @@ spelled-digits (suc m) n k h =
   where
     alone : n < 10 → k < length (digit n ∷ []) → IsDigit (getD (digit n ∷ []) k 0)
     alone c h = let q : k ≡ 0 = omega arith in rw q (omega arith, omega arith)
+
     behind : (l : List ℕ) → ((j : ℕ) → j < length l → IsDigit (getD l j 0)) → k < length (l ++ (digit (n % 10) ∷ [])) → IsDigit (getD (l ++ (digit (n % 10) ∷ [])) k 0)
     behind l all h =
         by-cases (decLt k (length l))
