@@ -1,6 +1,7 @@
 -- Every width, null and count rule of document 01's table, by one test that is computed over all bytes. Assumes nothing.
-use mathlib.Core.Path.{_≡_, refl, ap}
+use mathlib.Core.Path.{_≡_, refl, sym, ap, _∙_}
 use mathlib.Core.Bool.{Bool, true, false, not, _&&_, Bool·beq, false≢true}
+use mathlib.Core.List.{List, [], _∷_}
 use mathlib.Core.Logic.{_↔_}
 use Prim.Native.Nat.{ℕ, zero, suc, pred, _≤_, _<_}
 use native.Mathlib.Omega.{arith}
@@ -8,8 +9,9 @@ use lib.IntN.{ℤ, pos, negsuc}
 use lib.Dec.{eqb, eqb·suc-zero}
 use borrow.Author.Tests.{eqb-true, eq-eqb, leb-true, le-leb, not-false}
 use Rattle.laws.specs.Lowest.{lowest}
-use Rattle.laws.proofs.LowestLaws.{lowest-zero}
-use Rattle.field.specs.Fields.{letterOf, widthOf, starOf, nullOf, typeOf, inRange, countRight, mostCount}
+use Rattle.laws.proofs.LowestLaws.{bool-cases, lowest-zero}
+use Rattle.laws.proofs.TestLaws.{clash}
+use Rattle.field.specs.Fields.{letterOf, widthOf, starOf, nullOf, types, find, typeOf, inRange, countRight, mostCount}
 use Rattle.field.specs.Table.{Count, numberOrStar, one, Row, table, elementWidth, starAllowed, RightCount, Agrees, Entry, listed, unlisted, entryIn, Right}
 use Rattle.field.specs.declared.FieldType.{FieldType}
 use Rattle.field.specs.declared.FieldType.the-variants.{Text, Latin, Float, Double, Short, Integer, ShortPair, ShortTriple, DoublePair, DoubleTriple, Date, NullField, Triplet}
@@ -141,3 +143,15 @@ type-of-letter DoubleTriple = refl
 type-of-letter Date = refl
 type-of-letter NullField = refl
 type-of-letter Triplet = refl
+
+-- and a type that a letter has, has the letter
+letter-found : (b : ℕ) (ts : List FieldType) (t : FieldType) → find b ts ≡ Is t → letterOf t ≡ b
+letter-found b [] t e = clash (cc)
+letter-found b (u ∷ ts) t e =
+    bool-cases (eqb b (letterOf u))
+    (λ c. let w = rw c at e in let s : u ≡ t = cc in ap letterOf (sym s) ∙ sym (eqb-true b (letterOf u) c))
+    (λ c. letter-found b ts t (rw c at e))
+
+pub letter-of-type : (b : ℕ) (t : FieldType) → typeOf b ≡ Is t → letterOf t ≡ b
+unfolding typeOf
+letter-of-type b t e = letter-found b types t e

@@ -1,9 +1,10 @@
 -- What a row needs of the header, by value: "so that nothing parses text per row".
 use mathlib.Core.Bool.{Bool, true, false, cond}
-use mathlib.Core.List.{List, [], _∷_, _++_}
+use mathlib.Core.List.{List, _++_}
 use Prim.Native.Nat.{ℕ, zero, suc, pred, _+_, _-_, _*_}
 use lib.Dec.{eqb, ltb}
 use lib.ListN.{replicate}
+use Rattle.laws.specs.Buffer.{oneTo}
 use Rattle.refusal.specs.declared.Refusal.{Refusal}
 use Rattle.number.specs.declared.Order.the-variants.{Least}
 use Rattle.field.specs.declared.FieldType.{FieldType}
@@ -57,8 +58,7 @@ blankColumn = record { kind = Text; star = false; count = 0; size = 0; offset = 
 
 -- the columns 1..n
 abbrev pub laidOut : List ℕ → ℕ → List ColumnLayout
-laidOut s zero = []
-laidOut s (suc k) = laidOut s k ++ (columnLayout s (suc k) ∷ [])
+laidOut s n = oneTo (columnLayout s) n
 
 -- the one width of the rows, or 0 where they have none (an id column is always there, so a width is at least 4)
 unfoldable pub rowWidth : List ℕ → ℕ → ℕ

@@ -4,3 +4,6 @@ pub mod Judge
 pub mod Layouts
 pub mod Steps
 pub mod Words
+pub mod Refusals
+pub mod LayoutWords
+pub mod Stages

@@ -3,9 +3,10 @@
 use mathlib.Core.Path.{_≡_}
 use mathlib.Core.Logic.{_⊎_}
 use mathlib.Core.Bool.{true, false}
-use mathlib.Core.List.{List, [], _∷_, _++_}
-use Prim.Native.Nat.{ℕ, zero, suc, pred, _+_, _≤_, _<_}
+use mathlib.Core.List.{List, [], _∷_}
+use Prim.Native.Nat.{ℕ, _+_, _≤_, _<_}
 use lib.ListN.{length, getD, take, drop}
+use Rattle.laws.specs.Lowest.{In}
 use Rattle.number.specs.declared.Order.{Order}
 use Rattle.number.specs.declared.Order.the-variants.{Least, Most}
 use Rattle.number.specs.Bytes.{number}
@@ -37,10 +38,6 @@ pub record ColumnSound (c : words.Column) : Type 0 where
   pub listed : typeOf (c .type) ≡ Is kind
   pub key : (c .key ≡ 80) ⊎ ((c .key ≡ 85) ⊎ (c .key ≡ 78))
   pub count : ((c .count ≡ words.star ∷ []) × (countRight kind true 0 ≡ true)) ⊎ (words.Numeral (c .count) × (countRight kind false (decimal 0 (c .count)) ≡ true))
-
--- k is one of 1..n
-abbrev pub In : ℕ → ℕ → Type 0
-In n k = (0 < k) × (k ≤ n)
 
 -- "Exactly one column is named `id` (letters of either case), with type I, count 1, key P; no other column has key P."
 pub record OneId (h : words.Reading) : Type 0 where

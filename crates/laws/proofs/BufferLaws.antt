@@ -7,10 +7,10 @@ use Prim.Native.Nat.{ℕ, zero, suc, pred, _+_, _-_, _≤_, _<_}
 use native.Mathlib.Numerals.{add-one}
 use native.Mathlib.Decide.{decLt, ℕ-discrete}
 use native.Mathlib.Omega.{arith}
-use lib.ListN.{length, getD, drop, set, length-append, length-drop, length-set, List·getD-append}
+use lib.ListN.{length, getD, drop, set, replicate, length-append, length-drop, length-set, List·getD-append}
 use lib.Seq.{drop-cons, set-at, getD-at, drop-at, getD-append-add, getD-drop, getD-set-same, getD-set-other, ext-getD}
 use Rattle.laws.specs.Orbit.{entry}
-use Rattle.laws.specs.Buffer.{listed, front}
+use Rattle.laws.specs.Buffer.{listed, front, oneTo}
 
 pub length-listed : (g : ℕ → ℕ) (n : ℕ) → length (listed g n) ≡ n
 length-listed g zero = refl
@@ -82,3 +82,24 @@ front-ext g h n d e = ap (λ (r : List ℕ). r ++ drop n d) (listed-ext g h n e)
 -- one front over another
 pub front-over : (g h : ℕ → ℕ) (n : ℕ) (d : List ℕ) → front g n (front h n d) ≡ front g n d
 front-over g h n d = ap (λ (r : List ℕ). listed g n ++ r) (drop-at (listed h n) (drop n d) n (length-listed h n))
+
+-- ---- a list of n elements, all x at first, that a loop fills from the front; k are filled
+pub length-oneTo : {A : Type 0} (f : ℕ → A) (n : ℕ) → length (oneTo f n) ≡ n
+length-oneTo f zero = refl
+length-oneTo f (suc n) = simp (length-append, length-oneTo f n) (omega arith)
+
+-- element i of a list that begins with f 1, .., f n
+pub getD-oneTo : {A : Type 0} (f : ℕ → A) (n : ℕ) (r : List A) (i : ℕ) (d : A) → i < n → getD (oneTo f n ++ r) i d ≡ f (suc i)
+getD-oneTo f zero r i d h = absurd (omega arith)
+getD-oneTo f (suc n) r i d h =
+    rw (append-assoc (oneTo f n) (f (suc n) ∷ []) r)
+    (by-cases (decLt i n) (λ c. getD-oneTo f n (f (suc n) ∷ r) i d c)
+    (λ c. let q : n ≡ i = omega arith in getD-at (oneTo f n) (f (suc n)) r d i (length-oneTo f n ∙ q) ∙ ap (λ (k : ℕ). f (suc k)) q))
+
+-- one more of them
+pub oneTo-next : {A : Type 0} (f : ℕ → A) (d : List A) (n k : ℕ) (x v : A) → k < n → d ≡ oneTo f k ++ replicate (n - k) x → v ≡ f (suc k)
+    → set d k v ≡ oneTo f (k + 1) ++ replicate (n - (k + 1)) x
+oneTo-next f d n k x v h q e =
+    let m : n - k ≡ suc (n - suc k) = omega arith in
+    let r = replicate (n - suc k) x in
+    rw (add-one k, q, m, e) (set-at (oneTo f k) x r (f (suc k)) k (length-oneTo f k) ∙ sym (append-assoc (oneTo f k) (f (suc k) ∷ []) r))

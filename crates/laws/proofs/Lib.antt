@@ -11,3 +11,5 @@ pub mod LentLaws
 pub mod ForemostLaws
 pub mod EntryLaws
 pub mod PieceLaws
+pub mod PlaceLaws
+pub mod LeastLaws

@@ -88,6 +88,9 @@ module _ (p : ℕ → Bool) where
   pub lowest-next : (n k : ℕ) → k < n → None p k → p (suc k) ≡ true → k + 1 ≡ lowest p n
   lowest-next n k l h e = add-one k ∙ sym (lowest-found n k l h e)
 
+  pub lowest-ended : (n k : ℕ) → n ≤ k → k ≤ n → None p k → 0 ≡ lowest p n
+  lowest-ended n k a b h = let q : k ≡ n = omega arith in sym (lowest-nothing n (rw q at h))
+
 -- ---- the first test by itself, the others shifted: what a recursion from the front needs
 abbrev pub shifted : ℕ → ℕ
 shifted zero = 0

@@ -17,6 +17,18 @@ module _ {S : Type 0} (step : S → ℕ → Next S) (s : List ℕ) (st : S) (i :
   pub run-end : length s ≤ i → run step (drop i s) st i ≡ ended st
   run-end h = rw (drop-of-length-le s h)
 
+-- a run is stuck at a place of the text
+pub stuck-within : {S : Type 0} (step : S → ℕ → Next S) (s : List ℕ) (st : S) (i j : ℕ) → run step s st i ≡ stuck j → j ≤ i + length s
+stuck-within step [] st i j e = let z : _≡_ {A = ℕ} 0 1 = cc in absurd (no z)
+  where
+    no : _≡_ {A = ℕ} 0 1 → ⊥
+    no z = omega arith
+stuck-within {S} step (b ∷ bs) st i j e = by (λ st₁. stuck-within step bs st₁ (suc i) j) (step st b) e
+  where
+    by : ((st₁ : S) → run step bs st₁ (suc i) ≡ stuck j → j ≤ suc i + length bs) → (o : Next S) → follow (run step bs) i o ≡ stuck j → j ≤ i + suc (length bs)
+    by ih (go st₁) e = omega (arith, ih st₁ e)
+    by ih stop e = let h : j ≡ i = cc in omega arith
+
 -- ---- what a run says of the texts that are accepted
 
 module _ {S : Type 0} (step : S → ℕ → Next S) (Final : S → Type 0) where

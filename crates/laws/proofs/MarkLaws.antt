@@ -1,35 +1,28 @@
 -- Marks in a buffer, one for each of 1..n: counting predecessors, painting a walk, and owners. One turn of each loop, over a function f on 1..n, and what the loops leave.
 -- Assumes nothing.
 use mathlib.Core.Path.{_≡_, refl, sym, ap, _∙_}
-use mathlib.Core.Logic.{_≢_, by-cases}
-use mathlib.Core.Bool.{Bool, true, false, cond}
+use mathlib.Core.Logic.{by-cases}
+use mathlib.Core.Bool.{Bool, cond}
 use mathlib.Core.List.{List}
-use Prim.Native.Nat.{ℕ, zero, suc, pred, min, _+_, _-_, _≤_, _<_}
+use Prim.Native.Nat.{ℕ, zero, suc, min, _+_, _-_, _≤_, _<_}
 use native.Mathlib.Decide.{decLe}
 use native.Mathlib.Numerals.{add-one}
 use native.Mathlib.Omega.{arith}
 use borrow.Author.Tests.{eq-eqb, ne-eqb, lt-ltb, le-ltb, ltb-false}
 use lib.Dec.{eqb, ltb}
 use lib.ListN.{length, getD, set}
-use Rattle.laws.specs.Lowest.{firstNonzero, lowest, None}
+use Rattle.laws.specs.Lowest.{lowest, None}
 use Rattle.laws.specs.Orbit.{entry, iterate, meets, firstReturn, owner, firstTaken, firstUnmet, firstDoubled}
 use Rattle.laws.specs.Buffer.{front}
 use Rattle.laws.specs.Sums.{Inj, Into, hits}
-use Rattle.laws.specs.Marks.{zeros, kept, count, painted, ownerAt, alreadyMet}
-use Rattle.laws.proofs.SumLaws.{inj-of, hits-one}
-use Rattle.laws.proofs.LowestLaws.{none-next, lowest-next, lowest-nothing, lowest-ext, lowest-zero}
+use Rattle.laws.specs.Marks.{zeros, count, painted, ownerAt, alreadyMet, Starts}
+use Rattle.laws.proofs.SumLaws.{inj-of}
+use Rattle.laws.proofs.LowestLaws.{none-next, lowest-next, lowest-none, lowest-ext, lowest-zero}
 use Rattle.laws.proofs.BufferLaws.{front-low, front-put, front-of, front-ext, front-over}
-use Rattle.laws.proofs.OrbitLaws.{iterate-in, meets-hit, meets-miss, paint-row}
-
-
-
+use Rattle.laws.proofs.OrbitLaws.{iterate-in, meets-hit, meets-miss, meets-round, from-zero, never-zero, paint-row}
 
 pub single : (f : ℕ → ℕ) (n : ℕ) → Into f n n → firstDoubled f n ≡ 0 → Inj f n
 single f n w e = inj-of f n n w (λ s a b. ltb-false 1 _ (lowest-zero (λ (s : ℕ). ltb 1 (hits f n s)) n e .fails s a b))
-
-
-pub tally-start : (f : ℕ → ℕ) (n : ℕ) (d : List ℕ) → n ≤ length d → ((k : ℕ) → k < n → getD d k 0 ≡ 0) → d ≡ front (count f 0) n d
-tally-start f n d h z = front-of (count f 0) n d d h refl z (λ i u. refl)
 
 module _ (f : ℕ → ℕ) (n : ℕ) (d e : List ℕ) (w : Into f n n) (room : n ≤ length d) where
   pub tally-turn : (i t v : ℕ) → i < n → e ≡ front (count f i) n d → t ≡ f (suc i) → v ≡ min 2 (getD e (t - 1) 0 + 1)
@@ -44,7 +37,6 @@ module _ (f : ℕ → ℕ) (n : ℕ) (d e : List ℕ) (w : Into f n n) (room : n
       (front-put (count f i) (count f (suc i)) n d e (t - 1) v room q (omega arith)
       (rw (eq-eqb (suc (t - 1)) (f (suc i)) (s ∙ r)) (omega arith))
       (λ k a c. rw (ne-eqb (suc k) (f (suc i)) (λ m. c (omega arith))) (omega arith)))
-
 
 pub paint-start : (f : ℕ → ℕ) (n : ℕ) (d : List ℕ) (a row : ℕ) → n ≤ length d → d ≡ front (painted f d a row 0) n d
 paint-start f n d a row h = front-of (painted f d a row 0) n d d h refl (λ i u. refl) (λ i u. refl)
@@ -62,6 +54,21 @@ module _ (f : ℕ → ℕ) (n : ℕ) (d e : List ℕ) (w : Into f n n) (room : n
       (rw (meets-hit f i a (suc (t - 1)) (sym r' ∙ sym s)) refl)
       (λ k b c. rw (meets-miss f i a (suc k) (λ m. c (omega arith))) refl))
 
+  -- the start is back: what is painted is what all n moves would paint
+  pub paint-back : Inj f n → (i t : ℕ) → t ≡ iterate f (i + 1) a → t ≡ a → i < n → None (λ k. eqb (iterate f k a) a) i → e ≡ front (painted f d a row (i + 1)) n d → e ≡ front (painted f d a row n) n d
+  paint-back j i t r b l N q =
+      let z : i + 1 ≡ firstReturn f n a = lowest-next (λ k. eqb (iterate f k a) a) n i l N (eq-eqb (iterate f (suc i) a) a (sym (rw add-one at r) ∙ b)) in
+      q
+      ∙ front-ext (painted f d a row (i + 1)) (painted f d a row n) n d
+      (λ k u. ap (λ (c : Bool). cond c row (getD d k 0)) (ap (λ (m : ℕ). meets f m a (suc k)) z ∙ meets-round f n w j a x y (suc k)))
+
+-- the start is 0: nothing is painted
+pub paint-none : (f : ℕ → ℕ) (n : ℕ) (d : List ℕ) (a row : ℕ) → f 0 ≡ 0 → n ≤ length d → a ≡ 0 → d ≡ front (painted f d a row n) n d
+paint-none f n d a row z h e =
+    front-of (painted f d a row n) n d d h refl
+    (λ i u. sym (ap (λ (b : Bool). cond b row (getD d i 0)) (ap (λ (k : ℕ). meets f n k (suc i)) e ∙ from-zero f z n (suc i) (omega arith))))
+    (λ i u. refl)
+
 -- ---- the answers
 -- a buffer whose front is G, side 1 first, read as sides are
 pub entry-front : (G : ℕ → ℕ) (n : ℕ) (d m : List ℕ) → m ≡ front (λ (k : ℕ). G (suc k)) n d → (s : ℕ) → 0 < s → s ≤ n → entry m s ≡ G s
@@ -73,64 +80,55 @@ two h =
     by-cases (decLe 2 h) (λ c. eq-eqb (min 2 h) 2 (omega arith) ∙ sym (lt-ltb 1 h c))
     (λ c. ne-eqb (min 2 h) 2 (λ e. omega arith) ∙ sym (le-ltb 1 h (omega arith)))
 
-pub kept-pos : (r : ℕ) (g : ℕ → ℕ) (n : ℕ) (d : List ℕ) → (r ≡ 0 → ⊥) → front zeros n d ≡ kept r g n d
-kept-pos zero g n d z = absurd (z refl)
-kept-pos (suc r) g n d z = refl
+-- the first mark that shows two is the lowest that two lead to
+pub pred-answer : (f : ℕ → ℕ) (n : ℕ) (d m : List ℕ) → m ≡ front (count f n) n d → (r : ℕ) → r ≡ lowest (λ (s : ℕ). eqb (entry m s) 2) n → r ≡ firstDoubled f n
+pred-answer f n d m q r F =
+    F
+    ∙ lowest-ext (λ (s : ℕ). eqb (entry m s) 2) (λ (s : ℕ). ltb 1 (hits f n s)) n
+    (λ s a b.
+    ap (λ (x : ℕ). eqb x 2) (entry-front (λ (s : ℕ). min 2 (hits f n s)) n d m q s a b)
+    ∙ two (hits f n s))
 
-module _ (f : ℕ → ℕ) (n : ℕ) (d m : List ℕ) (q : m ≡ front (count f n) n (front zeros n d)) (r : ℕ) (F : r ≡ lowest (λ (s : ℕ). eqb (entry m s) 2) n) where
-  pub pred-answer : r ≡ firstDoubled f n
-  pred-answer =
-      F
-      ∙ lowest-ext (λ (s : ℕ). eqb (entry m s) 2) (λ (s : ℕ). ltb 1 (hits f n s)) n
-      (λ s a b.
-      ap (λ (x : ℕ). eqb x 2) (entry-front (λ (s : ℕ). min 2 (hits f n s)) n (front zeros n d) m q s a b)
-      ∙ two (hits f n s))
+-- the first mark that shows none is the lowest that no row's walk meets
+pub unmet-answer : (f : ℕ → ℕ) (n : ℕ) (st : ℕ → ℕ) (R : ℕ) (d m : List ℕ) → m ≡ front (ownerAt f n st R) n d → (s : ℕ) → s ≡ lowest (λ (t : ℕ). eqb (entry m t) 0) n → s ≡ firstUnmet f n st R
+unmet-answer f n st R d m q s F =
+    F
+    ∙ lowest-ext (λ (t : ℕ). eqb (entry m t) 0) (λ (t : ℕ). eqb (owner f n st R t) 0) n
+    (λ t a b. ap (λ (x : ℕ). eqb x 0) (entry-front (owner f n st R) n d m q t a b))
 
-  pub pred-none : Into f n n → r ≡ 0 → (r ≡ firstDoubled f n) × (m ≡ kept (firstDoubled f n) (λ (k : ℕ). 1) n d)
-  pred-none w z =
-      let e : firstDoubled f n ≡ 0 = sym pred-answer ∙ z in
-      let z' = lowest-zero (λ (s : ℕ). ltb 1 (hits f n s)) n e in
-      let i = inj-of f n n w (λ s a b. ltb-false 1 _ (z' .fails s a b)) in (
-        pred-answer,
-        rw e
-            (q ∙ front-over (count f n) zeros n d
-            ∙ front-ext (count f n) (λ (k : ℕ). 1) n d (λ k a. ap (min 2) (hits-one f n w i (suc k) (omega arith) a))),
-      )
+-- ---- marks that were cleared before
+pub cleared : (n : ℕ) (d m : List ℕ) → m ≡ front zeros n d → m ≡ front zeros n m
+cleared n d m q = q ∙ sym (front-over zeros zeros n d) ∙ ap (front zeros n) (sym q)
 
-  pub pred-some : (e : List ℕ) → e ≡ front zeros n m → (r ≡ 0 → ⊥) → (r ≡ firstDoubled f n) × (e ≡ kept (firstDoubled f n) (λ (k : ℕ). 1) n d)
-  pred-some e u z = (
-    pred-answer,
-    u ∙ ap (front zeros n) q ∙ front-over zeros (count f n) n (front zeros n d) ∙ front-over zeros zeros n d
-        ∙ kept-pos (firstDoubled f n) (λ (k : ℕ). 1) n d (λ e. z (pred-answer ∙ e)),
-  )
+pub over-front : (g h : ℕ → ℕ) (n : ℕ) (d m₁ m₂ : List ℕ) → m₁ ≡ front h n d → m₂ ≡ front g n m₁ → m₂ ≡ front g n d
+over-front g h n d m₁ m₂ a b = b ∙ ap (front g n) a ∙ front-over g h n d
 
+-- ---- the owners, row by row
+module _ (f : ℕ → ℕ) (n : ℕ) (st : ℕ → ℕ) (R : ℕ) (m m₀ : List ℕ) (w : Into f n n) (v : Starts n st R) (r : ℕ) (h : r < R) (q : m ≡ front (ownerAt f n st r) n m₀) (N : None (alreadyMet f n st) r) where
+  no-owner : st (suc r) ≡ 0 → owner f n st r (st (suc r)) ≡ 0
+  no-owner e =
+      lowest-none (λ p. meets f n (st p) (st (suc r))) r
+      (λ p a b.
+      by-cases (decLe 1 (st p))
+      (λ c. ap (meets f n (st p)) e ∙ never-zero f n w n (st p) c (v .within p a (omega arith)))
+      (λ c. let z : n ≡ 0 = v .alone p (suc r) a (omega arith) h (omega arith) e in ap (λ (k : ℕ). meets f k (st p) (st (suc r))) z))
 
-
-pub own-start : (f : ℕ → ℕ) (n : ℕ) (st : ℕ → ℕ) (d m : List ℕ) → m ≡ front zeros n d → m ≡ front (ownerAt f n st 0) n m
-own-start f n st d m q = q ∙ sym (front-over zeros zeros n d) ∙ ap (front zeros n) (sym q)
-
-module _ (f : ℕ → ℕ) (n : ℕ) (st : ℕ → ℕ) (R : ℕ) (m m₀ : List ℕ) (w : Into f n n) (v : Into st R n) (r : ℕ) (h : r < R) (q : m ≡ front (ownerAt f n st r) n m₀) (N : None (alreadyMet f n st) r) where
-  S : (0 < st (suc r)) × (st (suc r) ≤ n)
-  S = v (suc r) (omega arith) h
-
-  own-read : getD m (st (suc r) - 1) 0 ≡ owner f n st r (st (suc r))
+  -- the mark at the start is its owner so far
+  own-read : entry m (st (suc r)) ≡ owner f n st r (st (suc r))
   own-read =
-      let s = S in
-      let e : suc (st (suc r) - 1) ≡ st (suc r) = omega arith in
-      ap (λ (z : List ℕ). getD z (st (suc r) - 1) 0) q ∙ front-low (ownerAt f n st r) n m₀ (st (suc r) - 1) (omega arith)
-      ∙ ap (owner f n st r) e
+      by-cases (decLe 1 (st (suc r)))
+      (λ c. entry-front (owner f n st r) n m₀ m q (st (suc r)) c (v .within (suc r) (omega arith) h))
+      (λ c. let e : st (suc r) ≡ 0 = omega arith in ap (entry m) e ∙ sym (no-owner e))
 
-  pub own-taken : (getD m (st (suc r) - 1) 0 ≡ 0 → ⊥) → r + 1 ≡ firstTaken f n st R
+  pub own-taken : (entry m (st (suc r)) ≡ 0 → ⊥) → r + 1 ≡ firstTaken f n st R
   own-taken z = lowest-next (alreadyMet f n st) R r h N (lt-ltb 0 (owner f n st r (st (suc r))) (omega (arith, own-read)))
 
-  pub own-next : getD m (st (suc r) - 1) 0 ≡ 0 → None (alreadyMet f n st) (r + 1)
+  pub own-next : entry m (st (suc r)) ≡ 0 → None (alreadyMet f n st) (r + 1)
   own-next z = none-next (alreadyMet f n st) r N (le-ltb 0 (owner f n st r (st (suc r))) (omega (arith, own-read)))
 
-  pub own-turn : Inj f n → getD m (st (suc r) - 1) 0 ≡ 0 → (k : ℕ) → k ≡ firstReturn f n (st (suc r)) → (e : List ℕ)
-      → e ≡ front (λ (j : ℕ). cond (meets f k (st (suc r)) (suc j)) (r + 1) (getD m j 0)) n m
-      → e ≡ front (ownerAt f n st (r + 1)) n m₀
-  own-turn i z k a e u =
-      let P : ℕ → ℕ = λ j. cond (meets f k (st (suc r)) (suc j)) (r + 1) (getD m j 0) in
+  pub own-turn : Inj f n → f 0 ≡ 0 → entry m (st (suc r)) ≡ 0 → (e : List ℕ) → e ≡ front (painted f m (st (suc r)) (r + 1) n) n m → e ≡ front (ownerAt f n st (r + 1)) n m₀
+  own-turn i o z e u =
+      let P : ℕ → ℕ = painted f m (st (suc r)) (r + 1) n in
       rw add-one
       (u
       ∙ ap (front P n) q
@@ -138,32 +136,4 @@ module _ (f : ℕ → ℕ) (n : ℕ) (st : ℕ → ℕ) (R : ℕ) (m m₀ : List
       ∙ front-ext P (ownerAt f n st (suc r)) n m₀
       (λ j b.
       let y : getD m j 0 ≡ ownerAt f n st r j = ap (λ (t : List ℕ). getD t j 0) q ∙ front-low (ownerAt f n st r) n m₀ j b in
-      rw (a, add-one, y) (paint-row f n w i st r (λ c d g. v c d (omega arith)) (sym own-read ∙ z) (suc j))))
-
--- the three answers: d is the buffer at entry, m₀ where the loop begins, m where it is left
-module _ (f : ℕ → ℕ) (n : ℕ) (st : ℕ → ℕ) (R : ℕ) (d m m₀ : List ℕ) (p : m₀ ≡ front zeros n d) where
-  erased : (r : ℕ) (e : List ℕ) → m ≡ front (ownerAt f n st r) n m₀ → e ≡ front zeros n m → e ≡ front zeros n d
-  erased r e q u =
-      u ∙ ap (front zeros n) q ∙ front-over zeros (ownerAt f n st r) n m₀ ∙ ap (front zeros n) p ∙ front-over zeros zeros n d
-
-  -- a row was refused and the marks cleared
-  pub ans-taken : (r o : ℕ) (g : ℕ → ℕ) (e : List ℕ) → m ≡ front (ownerAt f n st r) n m₀ → e ≡ front zeros n m → r + 1 ≡ firstTaken f n st R → e ≡ kept (firstNonzero (firstTaken f n st R) o) g n d
-  ans-taken r o g e q u z = let z' : firstTaken f n st R ≡ suc r = sym z ∙ add-one r in rw z' (erased r e q u)
-
-  module _ (q : m ≡ front (ownerAt f n st R) n m₀) (N : None (alreadyMet f n st) R) (s : ℕ) (F : s ≡ lowest (λ (t : ℕ). eqb (entry m t) 0) n) where
-    pub none : firstTaken f n st R ≡ 0
-    none = lowest-nothing (alreadyMet f n st) R N
-
-    pub orphaned : s ≡ firstUnmet f n st R
-    orphaned =
-        F
-        ∙ lowest-ext (λ (t : ℕ). eqb (entry m t) 0) (λ (t : ℕ). eqb (owner f n st R t) 0) n
-        (λ t a b. ap (λ (x : ℕ). eqb x 0) (entry-front (owner f n st R) n m₀ m q t a b))
-
-    pub ans-all : s ≡ 0 → m ≡ kept (firstNonzero (firstTaken f n st R) (firstUnmet f n st R)) (ownerAt f n st R) n d
-    ans-all z =
-        let o : firstUnmet f n st R ≡ 0 = sym orphaned ∙ z in
-        rw (none, o) (q ∙ ap (front (ownerAt f n st R) n) p ∙ front-over (ownerAt f n st R) zeros n d)
-
-    pub ans-orphan : (e : List ℕ) → e ≡ front zeros n m → (s ≡ 0 → ⊥) → e ≡ kept (firstNonzero (firstTaken f n st R) (firstUnmet f n st R)) (ownerAt f n st R) n d
-    ans-orphan e u z = rw (none, ← orphaned) (erased R e q u ∙ kept-pos s (ownerAt f n st R) n d z)
+      rw (add-one, y) (paint-row f n w i o st r (λ c d g. v .within c d (omega arith)) (sym own-read ∙ z) (suc j) (omega arith))))

@@ -31,6 +31,17 @@ meets-hit f k a s e = lt-ltb 0 _ (lowest-some (λ i. eqb (iterate f i a) s) (suc
 pub meets-miss : (f : ℕ → ℕ) (k a s : ℕ) → (iterate f (suc k) a ≡ s → ⊥) → meets f (suc k) a s ≡ meets f k a s
 meets-miss f k a s h = ap (ltb 0) (ap (λ (b : Bool). firstNonzero (lowest (λ i. eqb (iterate f i a) s) k) (cond b (suc k) 0)) (ne-eqb _ s h) ∙ nonzero-zero (lowest (λ i. eqb (iterate f i a) s) k))
 
+-- 0 leads to 0: a walk from there meets none of 1..n, and one from 1..n never meets 0
+iterate-zero : (f : ℕ → ℕ) → f 0 ≡ 0 → (k : ℕ) → iterate f k 0 ≡ 0
+iterate-zero f z zero = refl
+iterate-zero f z (suc k) = ap f (iterate-zero f z k) ∙ z
+
+pub from-zero : (f : ℕ → ℕ) → f 0 ≡ 0 → (n s : ℕ) → 0 < s → meets f n 0 s ≡ false
+from-zero f z n s a = ap (ltb 0) (lowest-none (λ k. eqb (iterate f k 0) s) n (λ k u v. ne-eqb (iterate f k 0) s (λ e. omega (arith, iterate-zero f z k))))
+
+pub never-zero : (f : ℕ → ℕ) (n : ℕ) → Into f n n → (m a : ℕ) → 0 < a → a ≤ n → meets f m a 0 ≡ false
+never-zero f n g m a x y = ap (ltb 0) (lowest-none (λ k. eqb (iterate f k a) 0) m (λ k u v. ne-eqb (iterate f k a) 0 (λ e. omega (arith, iterate-in f n g k a x y .0))))
+
 module _ (f : ℕ → ℕ) (n : ℕ) (g : Into f n n) (h : Inj f n) where
   iterate-cancel : (k s t : ℕ) → 0 < s → s ≤ n → 0 < t → t ≤ n → iterate f k s ≡ iterate f k t → s ≡ t
   iterate-cancel zero s t a b c d e = e
@@ -38,6 +49,11 @@ module _ (f : ℕ → ℕ) (n : ℕ) (g : Into f n n) (h : Inj f n) where
       let v = iterate-in f n g k s a b in
       let w = iterate-in f n g k t c d in
       iterate-cancel k s t a b c d (h (iterate f k s) (iterate f k t) (v .0) (v .1) (w .0) (w .1) e)
+
+  some-start : f 0 ≡ 0 → (a s : ℕ) → 0 < s → meets f n a s ≡ true → 0 < a
+  some-start z a s pos e =
+      by-cases (decLe 1 a) (λ c. c)
+      (λ c. let q : a ≡ 0 = omega arith in absurd (true≢false (sym (rw q at e) ∙ from-zero f z n s pos)))
 
   module _ (s : ℕ) (a : 0 < s) (b : s ≤ n) where
     -- met again: then s itself is back after the moves in between
@@ -145,23 +161,25 @@ module _ (f : ℕ → ℕ) (n : ℕ) (g : Into f n n) (h : Inj f n) where
       meets-of s a b (w₃ .0 + (r .0 + w₁ .0)) v
       (iterate-add f (w₃ .0) (r .0 + w₁ .0) s ∙ ap (iterate f (w₃ .0)) (iterate-add f (r .0) (w₁ .0) s ∙ ap (iterate f (r .0)) (w₁ .1) ∙ r .1) ∙ w₃ .1)
 
-  -- a row r + 1 whose start no earlier row's walk meets: its round is marked with it, and no mark of an earlier row is lost
-  pub paint-row : (st : ℕ → ℕ) (r : ℕ) → ((q : ℕ) → 0 < q → q ≤ suc r → (0 < st q) × (st q ≤ n)) → owner f n st r (st (suc r)) ≡ 0
-      → (s : ℕ) → cond (meets f (firstReturn f n (st (suc r))) (st (suc r)) s) (suc r) (owner f n st r s) ≡ owner f n st (suc r) s
-  paint-row st r starts free s =
-      let S = starts (suc r) (omega arith) (le-refl (suc r)) in
-      ap (λ (b : Bool). cond b (suc r) (owner f n st r s)) (meets-round (st (suc r)) (S .0) (S .1) s)
-      ∙ bool-cases (meets f n (st (suc r)) s)
+  -- a row r + 1 whose start no earlier row's walk meets: its walk is marked with it, and no mark of an earlier row is lost.
+  -- A row whose start is 0 has no place of 1..n, since 0 leads to 0
+  pub paint-row : f 0 ≡ 0 → (st : ℕ → ℕ) (r : ℕ) → ((q : ℕ) → 0 < q → q ≤ suc r → st q ≤ n) → owner f n st r (st (suc r)) ≡ 0
+      → (s : ℕ) → 0 < s → cond (meets f n (st (suc r)) s) (suc r) (owner f n st r s) ≡ owner f n st (suc r) s
+  paint-row none st r starts free s pos =
+      bool-cases (meets f n (st (suc r)) s)
       (λ c.
+      let S : 0 < st (suc r) = some-start none (st (suc r)) s pos c in
       let z : owner f n st r s ≡ 0 =
       lowest-none (λ q. meets f n (st q) s) r
       (λ q u v.
-      let Q = starts q u (omega arith) in
       bool-cases (meets f n (st q) s)
       (λ d.
+      let Q : 0 < st q = some-start none (st q) s pos d in
       absurd
       (true≢false
-      (sym (same-round (st q) (Q .0) (Q .1) (st (suc r)) (S .0) (S .1) s (st (suc r)) d c (meets-of (st (suc r)) (S .0) (S .1) 0 (st (suc r)) refl))
+      (sym
+      (same-round (st q) Q (starts q u (omega arith)) (st (suc r)) S (starts (suc r) (omega arith) (le-refl (suc r))) s (st (suc r)) d c
+      (meets-of (st (suc r)) S (starts (suc r) (omega arith) (le-refl (suc r))) 0 (st (suc r)) refl))
       ∙ lowest-zero (λ q. meets f n (st q) (st (suc r))) r free .fails q u v)))
       (λ d. d)) in
       rw (z, c))

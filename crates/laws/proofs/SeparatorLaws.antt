@@ -9,7 +9,7 @@ use lib.ListN.{length, getD}
 abbrev pub Lacks : ℕ → List ℕ → Type 0
 Lacks b xs = (k : ℕ) → k < length xs → getD xs k 0 ≡ b → ⊥
 
-lacks-tail : (b x : ℕ) (xs : List ℕ) → Lacks b (x ∷ xs) → Lacks b xs
+pub lacks-tail : (b x : ℕ) (xs : List ℕ) → Lacks b (x ∷ xs) → Lacks b xs
 lacks-tail b x xs l k h = l (suc k) (omega arith)
 
 -- what stands before the first separator, and what stands after it

@@ -21,6 +21,13 @@ pub sum-le : (g h : ℕ → ℕ) (n : ℕ) → ((k : ℕ) → 0 < k → k ≤ n 
 sum-le g h zero e = le-refl 0
 sum-le g h (suc n) e = omega (arith, sum-le g h n (λ k a b. e k a (omega arith)), e (suc n) (omega arith) (le-refl (suc n)))
 
+-- no one of them is more than all
+pub sum-part : (g : ℕ → ℕ) (n k : ℕ) → 0 < k → k ≤ n → g k ≤ sum g n
+sum-part g zero k a b = absurd (omega arith)
+sum-part g (suc n) k a b =
+    by-cases (decLe k n) (λ c. omega (arith, sum-part g n k a c))
+    (λ c. let e : k ≡ suc n = omega arith in rw e (omega arith))
+
 pub sum-ones : (n : ℕ) → sum (λ k. 1) n ≡ n
 sum-ones zero = refl
 sum-ones (suc n) = omega (arith, sum-ones n)

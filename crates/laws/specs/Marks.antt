@@ -1,7 +1,8 @@
 -- What a loop leaves in a buffer of marks, one for each of 1..n: counts of predecessors, a painted walk, owners.
+use mathlib.Core.Path.{_≡_}
 use mathlib.Core.Bool.{Bool, cond}
 use mathlib.Core.List.{List}
-use Prim.Native.Nat.{ℕ, zero, suc, pred, min}
+use Prim.Native.Nat.{ℕ, zero, suc, pred, min, _≤_, _<_}
 use lib.Dec.{ltb}
 use lib.ListN.{getD}
 use Rattle.laws.specs.Sums.{hits}
@@ -10,11 +11,6 @@ use Rattle.laws.specs.Orbit.{meets, owner}
 
 abbrev pub zeros : ℕ → ℕ
 zeros k = 0
-
--- the first n marks: g where nothing was refused, else zeros
-abbrev pub kept : ℕ → (ℕ → ℕ) → ℕ → List ℕ → List ℕ
-kept zero g n d = front g n d
-kept (suc r) g n d = front (λ k. 0) n d
 
 -- the counts of i sides, up to two, at place k
 abbrev pub count : (ℕ → ℕ) → ℕ → ℕ → ℕ
@@ -32,3 +28,8 @@ ownerAt f n st r k = owner f n st r (suc k)
 -- the test of a row: an earlier walk meets its start
 abbrev pub alreadyMet : (ℕ → ℕ) → ℕ → (ℕ → ℕ) → ℕ → Bool
 alreadyMet f n st r = ltb 0 (owner f n st (pred r) (st r))
+
+-- the starts of the rows 1..R: places of 1..n, or 0 for a row that has none; where there are places, at most one row has none
+pub record Starts (n : ℕ) (st : ℕ → ℕ) (R : ℕ) : Type 0 where
+  pub within : (r : ℕ) → 0 < r → r ≤ R → st r ≤ n
+  pub alone : (q r : ℕ) → 0 < q → q < r → r ≤ R → st q ≡ 0 → st r ≡ 0 → n ≡ 0

@@ -6,11 +6,11 @@ use Prim.Native.Nat.{ℕ, zero, suc, _+_, _≤_, _<_}
 use native.Mathlib.Omega.{arith}
 use native.Mathlib.Numerals.{add-one}
 use lib.Dec.{eqb, ltb, leb}
-use borrow.Author.Tests.{lt-ltb, le-ltb, eq-eqb, ne-eqb, eqb-true, eqb-false}
+use borrow.Author.Tests.{lt-ltb, le-ltb, eq-eqb, ne-eqb, eqb-true, eqb-false, ltb-true}
 use Rattle.laws.specs.Lowest.{lowest, None}
-use Rattle.laws.proofs.LowestLaws.{none-next, lowest-found, lowest-nothing, bool-cases}
+use Rattle.laws.proofs.LowestLaws.{none-next, lowest-found, lowest-nothing, lowest-zero, lowest-pos, bool-cases}
 use Rattle.refusal.specs.declared.Refusal.{Refusal}
-use Rattle.refusal.specs.Order.{refusal, fine, refusedIf, first, located, firstOf, refuses, lowestOf, AllFine, RefusedFirst}
+use Rattle.refusal.specs.Order.{refusal, fine, refusedIf, first, located, firstOf, refuses, atRow, lowestOf, AllFine, RefusedFirst}
 
 -- a test that passes leaves the answer to the rest, and one that refuses is the answer
 pub first-passes : (a b : Refusal) → a .number ≡ 0 → first a b ≡ b
@@ -64,6 +64,116 @@ unfolding lowestOf
 all-fine f n i a b h =
     let e : i ≡ n = omega arith in
     rw (lowest-nothing (refuses f) n (rw e at h))
+
+-- no row is refused: then none of them is
+none-refused : (f : ℕ → Refusal) (n k : ℕ) → atRow f k .number ≡ 0 → (0 < k → 0 < f k .number) → k ≡ 0
+none-refused f n zero e h = refl
+none-refused f n (suc k) e h = absurd (omega (arith, h (omega arith)))
+
+pub all-passed : (f : ℕ → Refusal) (n : ℕ) → lowestOf f n .number ≡ 0 → None (refuses f) n
+unfolding lowestOf
+all-passed f n e =
+    lowest-zero (refuses f) n
+    (none-refused f n (lowest (refuses f) n) e (λ a. ltb-true 0 (f (lowest (refuses f) n) .number) (lowest-pos (refuses f) n a .passes)))
+
+pub lowest-fine : (f : ℕ → Refusal) (n : ℕ) → lowestOf f n .number ≡ 0 → lowestOf f n ≡ fine
+unfolding lowestOf
+lowest-fine f n e =
+    ap (atRow f)
+    (none-refused f n (lowest (refuses f) n) e (λ a. ltb-true 0 (f (lowest (refuses f) n) .number) (lowest-pos (refuses f) n a .passes)))
+
+-- ---- the numbers of a list of tests: each refuses with m or a higher number
+abbrev pub Numbered : ℕ → Refusal → Type 0
+Numbered m r = (r .number ≡ 0 → ⊥) → m ≤ r .number
+
+abbrev pub AllNumbered : ℕ → List Refusal → Type 0
+AllNumbered m [] = Unit {0}
+AllNumbered m (a ∷ l) = Numbered m a × AllNumbered m l
+
+pub first-numbered : (m : ℕ) (l : List Refusal) → AllNumbered m l → Numbered m (firstOf l)
+first-numbered m [] h = λ z. absurd (z refl)
+first-numbered m (a ∷ l) h =
+    bool-cases (eqb (a .number) 0)
+    (λ t. rw (first-passes a (firstOf l) (eqb-true (a .number) 0 t)) (first-numbered m l (h .1)))
+    (λ t. rw (first-refuses a (firstOf l) (eqb-false (a .number) 0 t)) (h .0))
+
+pub located-numbered : (m n p : ℕ) → m ≤ n → Numbered m (located n p)
+located-numbered m n p h =
+    bool-cases (eqb p 0)
+    (λ t. rw (located-zero n p (eqb-true p 0 t)) (λ z. absurd (z refl)))
+    (λ t. rw (located-at n p (eqb-false p 0 t)) (λ z. h))
+
+row-numbered : (m : ℕ) (f : ℕ → Refusal) (k : ℕ) → ((i : ℕ) → Numbered m (f i)) → Numbered m (atRow f k)
+row-numbered m f zero h z = absurd (z refl)
+row-numbered m f (suc k) h z = h (suc k) z
+
+pub lowest-numbered : (m : ℕ) (f : ℕ → Refusal) (n : ℕ) → ((i : ℕ) → Numbered m (f i)) → Numbered m (lowestOf f n)
+unfolding lowestOf
+lowest-numbered m f n h = row-numbered m f (lowest (refuses f) n) h
+
+-- ---- tests in order, as code has them: a test that refuses is the answer; one that is fine leaves it to the rest
+pub stops : (a q : Refusal) (l : List Refusal) → q ≡ a → (q .number ≡ 0 → ⊥) → q ≡ firstOf (a ∷ l)
+stops a q l e n = e ∙ sym (first-refuses a (firstOf l) (λ z. n (ap (λ (r : Refusal). r .number) e ∙ z)))
+
+pub goes-on : (a q r : Refusal) (l : List Refusal) → q ≡ a → q .number ≡ 0 → r ≡ firstOf l → r ≡ firstOf (a ∷ l)
+goes-on a q r l e n h = h ∙ sym (first-passes a (firstOf l) (sym (ap (λ (r : Refusal). r .number) e) ∙ n))
+
+-- two tests in order
+module _ (a b : Refusal) (p : Refusal) (e : p ≡ a) where
+  pub at-first-of-two : (p .number ≡ 0 → ⊥) → p ≡ firstOf (a ∷ b ∷ [])
+  at-first-of-two n = stops a p (b ∷ []) e n
+
+  pub at-second-of-two : p .number ≡ 0 → (q : Refusal) → q ≡ firstOf (b ∷ []) → q ≡ firstOf (a ∷ b ∷ [])
+  at-second-of-two n q f = goes-on a p q (b ∷ []) e n f
+
+-- four tests in order
+module _ (a b c d : Refusal) (p : Refusal) (e : p ≡ a) where
+  pub at-first : (p .number ≡ 0 → ⊥) → p ≡ firstOf (a ∷ b ∷ c ∷ d ∷ [])
+  at-first n = stops a p (b ∷ c ∷ d ∷ []) e n
+
+  module _ (n : p .number ≡ 0) (q : Refusal) (f : q ≡ b) where
+    pub at-second : (q .number ≡ 0 → ⊥) → q ≡ firstOf (a ∷ b ∷ c ∷ d ∷ [])
+    at-second m = goes-on a p q (b ∷ c ∷ d ∷ []) e n (stops b q (c ∷ d ∷ []) f m)
+
+    module _ (m : q .number ≡ 0) (r : Refusal) (g : r ≡ c) where
+      pub at-third : (r .number ≡ 0 → ⊥) → r ≡ firstOf (a ∷ b ∷ c ∷ d ∷ [])
+      at-third l = goes-on a p r (b ∷ c ∷ d ∷ []) e n (goes-on b q r (c ∷ d ∷ []) f m (stops c r (d ∷ []) g l))
+
+      pub at-fourth : r .number ≡ 0 → (s : Refusal) → s ≡ firstOf (d ∷ []) → s ≡ firstOf (a ∷ b ∷ c ∷ d ∷ [])
+      at-fourth l s h = goes-on a p s (b ∷ c ∷ d ∷ []) e n (goes-on b q s (c ∷ d ∷ []) f m (goes-on c r s (d ∷ []) g l h))
+
+-- the last test: nothing comes after it
+pub located-ends : (n p : ℕ) → (n ≡ 0 → ⊥) → located n p ≡ firstOf (located n p ∷ [])
+located-ends n p h =
+    bool-cases (eqb p 0)
+    (λ t. let e = located-zero n p (eqb-true p 0 t) in rw e (sym (first-passes fine fine refl)))
+    (λ t. let e = located-at n p (eqb-false p 0 t) in rw e (sym (first-refuses (refusal n p) fine h)))
+
+row-ends : (f : ℕ → Refusal) (k : ℕ) → (0 < k → (f k .number ≡ 0 → ⊥)) → atRow f k ≡ firstOf (atRow f k ∷ [])
+row-ends f zero h = sym (first-passes fine fine refl)
+row-ends f (suc k) h = sym (first-refuses (f (suc k)) fine (h (omega arith)))
+
+pub lowest-ends : (f : ℕ → Refusal) (n : ℕ) → lowestOf f n ≡ firstOf (lowestOf f n ∷ [])
+unfolding lowestOf
+lowest-ends f n = row-ends f (lowest (refuses f) n) (λ a z. omega (arith, ltb-true 0 (f (lowest (refuses f) n) .number) (lowest-pos (refuses f) n a .passes)))
+
+-- the same for parts of the list, each judged by itself
+pub part-stops : (k l : List Refusal) (q : Refusal) → q ≡ firstOf k → (q .number ≡ 0 → ⊥) → q ≡ firstOf (k ++ l)
+part-stops [] l q e n = absurd (n (ap (λ (r : Refusal). r .number) e))
+part-stops (a ∷ k) l q e n =
+    bool-cases (eqb (a .number) 0)
+    (λ t.
+    let z = eqb-true (a .number) 0 t in
+    part-stops k l q (e ∙ first-passes a (firstOf k) z) n ∙ sym (first-passes a (firstOf (k ++ l)) z))
+    (λ t.
+    let z = eqb-false (a .number) 0 t in
+    e ∙ first-refuses a (firstOf k) z ∙ sym (first-refuses a (firstOf (k ++ l)) z))
+
+pub part-goes-on : (k l : List Refusal) (q r : Refusal) → q ≡ firstOf k → q .number ≡ 0 → r ≡ firstOf l → r ≡ firstOf (k ++ l)
+part-goes-on [] l q r e n h = h
+part-goes-on (a ∷ k) l q r e n h =
+    let b = both a (firstOf k) (sym (ap (λ (r : Refusal). r .number) e) ∙ n) in
+    part-goes-on k l q r (e ∙ first-passes a (firstOf k) (b .0)) n h ∙ sym (first-passes a (firstOf (k ++ l)) (b .0))
 
 -- ---- "accepted exactly when" every test passes, and "refused with r exactly when" r is the first that refuses
 pub all-pass : (l : List Refusal) → AllFine l → firstOf l .number ≡ 0

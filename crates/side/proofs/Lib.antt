@@ -1,1 +1,2 @@
 pub mod SuccessorExactly
+pub mod SideLaws

@@ -9,6 +9,7 @@ use native.Mathlib.Omega.{arith}
 use borrow.Author.Tests.{eq-eqb, ne-eqb, le-ltb, eqb-false}
 use lib.Dec.{eqb}
 use lib.ListN.{length}
+use Rattle.laws.specs.Lowest.{In, Each}
 use Rattle.laws.specs.Sums.{sum, Inj, Into}
 use Rattle.laws.specs.Orbit.{entry, iterate, firstReturn, meets, owner, firstTaken, firstUnmet}
 use Rattle.laws.proofs.LowestLaws.{bool-cases, lowest-none, lowest-pos}
@@ -24,7 +25,7 @@ use Rattle.side.proofs.SuccessorExactly.{not-outside, after-side, successor-sid
 use Rattle.tile.specs.Columns.{Tile, E, R, sides, startSide}
 use Rattle.tile.specs.Check.{verdict, verdictOf, marksLeft, marksAfter}
 use Rattle.tile.specs.Walk.{moves, walkOf, sideAfter, ringSteps, ringSides}
-use Rattle.tile.specs.Facts.{In, Each, Facts}
+use Rattle.tile.specs.Facts.{Facts}
 use Rattle.tile.specs.Demand.{Closed, Walks, Stands, OneRing, Demand3}
 use Rattle.tile.specs.declared.Verdict.the-variants.{Accepted}
 use Rattle.tile.specs.declared.Moves.the-variants.{Back}

@@ -1,18 +1,17 @@
 -- The tests of the check in document 01's order: all of them hold and nothing is refused, or one fails with its number and place
 -- while all earlier ones hold; and no two such refusals fit one tile. Assumes nothing.
 use mathlib.Core.Path.{_≡_, refl, sym, ap, _∙_}
-use mathlib.Core.Logic.{by-cases, inl, inr, ⊎-elim}
+use mathlib.Core.Logic.{inl, inr, ⊎-elim}
 use mathlib.Core.List.{List, [], _∷_}
 use lib.ListN.{getD}
 use Prim.Native.Nat.{ℕ, _<_}
-use native.Mathlib.Decide.{decLt}
 use native.Mathlib.Omega.{arith}
-use Rattle.refusal.proofs.JudgedLaws.{Judged, InOrder, judged-in-order}
+use Rattle.refusal.proofs.JudgedLaws.{Judged, InOrder, judged-in-order, one-failing, lowest-one, fails-not-each}
 use Rattle.side.proofs.SuccessorExactly.{one-fault}
 use Rattle.tile.specs.Columns.{Tile, sides}
 use Rattle.tile.specs.Check.{tests, verdict}
 use Rattle.tile.specs.Facts.{Test, sizes, owner-space, nodes, faces, links, successors, predecessors, first-edges, ring-faces, runs, starts, not-named-twice, covered, rank, Holds, FailsAt, RefusedWith, Succeeded}
-use Rattle.tile.proofs.TestsInWords.{lowest-one, fails-not-each, judged-sizes, judged-space, judged-nodes, judged-faces, judged-links, link-in, judged-successors, judged-predecessors, not-two, judged-first-edges, judged-ring-faces, judged-runs, judged-starts, judged-named, judged-covered}
+use Rattle.tile.proofs.TestsInWords.{judged-sizes, judged-space, judged-nodes, judged-faces, judged-links, link-in, judged-successors, judged-predecessors, not-two, judged-first-edges, judged-ring-faces, judged-runs, judged-starts, judged-named, judged-covered}
 
 -- no two tests have one place in the order
 order : List Test
@@ -119,9 +118,6 @@ module _ (t : Tile) (space : ℕ) where
 
   pub one-refusal : (n p m q : ℕ) → RefusedWith t space n p → RefusedWith t space m q → (n ≡ m) × (p ≡ q)
   one-refusal n p m q a b =
-      by-cases (decLt (rank (a .test)) (rank (b .test)))
-      (λ l. absurd (not-both (a .test) n p (a .fails) (b .earlier (a .test) l)))
-      (λ l.
-      by-cases (decLt (rank (b .test)) (rank (a .test)))
-      (λ k. absurd (not-both (b .test) m q (b .fails) (a .earlier (b .test) k)))
-      (λ k. one-way (a .test) n p m q (a .earlier) (a .fails) (rw (apart (a .test) (b .test) (omega arith)) (b .fails))))
+      one-failing Test rank apart (Holds t space) (FailsAt t space) (tests t space) in-order rank-below not-both one-way n p m q
+      (record { test = a .test; earlier = a .earlier; fails = a .fails })
+      (record { test = b .test; earlier = b .earlier; fails = b .fails })

@@ -6,3 +6,7 @@ pub mod FirstReturn
 pub mod DemandThree
 pub mod NoSecondAnswer
 pub mod Examples
+pub mod RunLaws
+pub mod OwnerLaws
+pub mod JudgeLaws
+pub mod WalkLaws

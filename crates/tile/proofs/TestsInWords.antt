@@ -10,17 +10,15 @@ use native.Mathlib.Omega.{arith}
 use borrow.Author.Tests.{ne-eqb, eqb-true, eqb-false, le-ltb, ltb-true, ltb-false}
 use lib.Dec.{eqb, ltb}
 use lib.ListN.{length, List·getD-eq-default}
-use Rattle.laws.specs.Lowest.{lowest, At}
+use Rattle.laws.specs.Lowest.{lowest, At, In, Each, LowestFailing}
 use Rattle.laws.specs.Sums.{hits, Inj, Into}
 use Rattle.laws.specs.Orbit.{entry, meets, owner, firstDoubled, firstTaken, firstUnmet}
 use Rattle.laws.proofs.TestLaws.{or-false, and-false, and-true, denied, refuted, equal, not-unequal, nonzero, not-above}
-use Rattle.laws.proofs.LowestLaws.{bool-cases, lowest-cases, lowest-some, lowest-none, lowest-pos, lowest-zero}
+use Rattle.laws.proofs.LowestLaws.{bool-cases, lowest-some, lowest-pos}
 use Rattle.laws.proofs.SumLaws.{sum-most, hits-single, hits-some, hits-one, inj-of}
 use Rattle.laws.proofs.OrbitLaws.{meets-of, of-meets}
-use Rattle.refusal.specs.declared.Refusal.{Refusal}
-use Rattle.refusal.specs.Order.{refusal, refusedIf, located, refuses, atRow, lowestOf}
-use Rattle.refusal.proofs.OrderLaws.{located-zero, located-at}
-use Rattle.refusal.proofs.JudgedLaws.{Judged}
+use Rattle.refusal.specs.Order.{refusal, refusedIf, located, lowestOf}
+use Rattle.refusal.proofs.JudgedLaws.{Judged, judged-lowest, none-found, judged-lowest-of, judged-once}
 use Rattle.side.specs.declared.Successor.{Successor}
 use Rattle.side.specs.declared.Successor.the-variants.{Side, Wrong}
 use Rattle.side.specs.Edges.{outside, edgeOf, face}
@@ -28,79 +26,7 @@ use Rattle.side.specs.Successor.{successor, after, Fault}
 use Rattle.side.proofs.SuccessorExactly.{not-outside, face-of-right, face-of-left, LinkIn, successor-follows, follows-successor, wrong-fault, wrong-number, successor-side, side-after}
 use Rattle.tile.specs.Columns.{Tile, E, F, R, N, sides, mostRows, startSide, emptyStart}
 use Rattle.tile.specs.Check.{slicesUnequal, tooManyRows, sizesWrong, rowOutside, nodeOutside, faceOutside, linkOutside, refusedSide, sideRefusal, firstEdgeWrong, ringFaceOutside, runElsewhere, runWrong, startWrong}
-use Rattle.tile.specs.Facts.{In, Each, LowestFailing, Sizes, NodesIn, FacesIn, LinksIn, Succeeded, OnePredecessor, NoTwoPredecessors, FirstEdgeTouches, RingFaceIn, OneRun, EmptyRing, StartsOnSide, StartRight, Reaches, NotNamedBefore, OnARing}
-
--- ---- "lowest row or side first", for every test of rows or sides: P k is what is asked of k
-module _ (P : ℕ → Type 0) (n : ℕ) where
-  -- the lowest that fails is one, and there is none where all hold
-  pub lowest-one : (p q : ℕ) → LowestFailing n P p → LowestFailing n P q → p ≡ q
-  lowest-one p q a b =
-      by-cases (decLt p q) (λ l. absurd (a .fails (b .below p (a .within .0) l)))
-      (λ l. by-cases (decLt q p) (λ m. absurd (b .fails (a .below q (b .within .0) m))) (λ m. omega arith))
-
-  pub fails-not-each : (p : ℕ) → LowestFailing n P p → Each n P → ⊥
-  fails-not-each p a h = a .fails (h p (a .within))
-
-  -- the lowest that a test b finds, where b says in words that P fails
-  module _ (m : ℕ) (some : m ≡ 0 → ⊥) (b : ℕ → Bool) (exact : (k : ℕ) → In n k → (b k ≡ false) ↔ P k) where
-    pub judged-lowest : Judged (located m (lowest b n)) (Each n P) (λ x p. (x ≡ m) × LowestFailing n P p)
-    judged-lowest =
-        ⊎-elim
-        (λ h. rw (located-zero m (lowest b n) (h .0)) (inl (refl, λ k i. exact k i .0 (h .1 .fails k (i .0) (i .1)))))
-        (λ h.
-        rw (located-at m (lowest b n) (λ e. omega (arith, h .pos)))
-        (inr (
-          some,
-          (
-            refl,
-            record {
-              within = (h .pos, h .within);
-              fails = λ w. true≢false (sym (h .passes) ∙ exact (lowest b n) (h .pos, h .within) .1 w);
-              below = λ k a l. exact k (a, omega (arith, h .within)) .0 (h .below k a l);
-            },
-          ),
-        )))
-        (lowest-cases b n)
-
-  -- nothing is found exactly where P holds everywhere
-  module _ (b : ℕ → Bool) (exact : (k : ℕ) → In n k → (b k ≡ false) ↔ P k) where
-    none-found : (ltb 0 (lowest b n) ≡ false) ↔ Each n P
-    none-found = (
-      λ e k i. exact k i .0 (lowest-zero b n (omega (arith, ltb-false 0 (lowest b n) e)) .fails k (i .0) (i .1)),
-      λ h. le-ltb 0 (lowest b n) (omega (arith, lowest-none b n (λ k u v. exact k (u, v) .1 (h k (u, v))))),
-    )
-
-  -- the lowest of which a refusal is made, each place judged by itself
-  at-row : (f : ℕ → Refusal) (r : ℕ) → 0 < r → atRow f r ≡ f r
-  at-row f zero h = absurd (omega arith)
-  at-row f (suc r) h = refl
-
-  module _ (Q : ℕ → ℕ → Type 0) (f : ℕ → Refusal) (each : (k : ℕ) → In n k → Judged (f k) (P k) (λ m p. (p ≡ k) × Q k m × (P k → ⊥))) where
-    fine-row : (k : ℕ) → In n k → refuses f k ≡ false → P k
-    fine-row k i e = ⊎-elim (λ h. h .1) (λ h. absurd (h .0 (omega (arith, ltb-false 0 (f k .number) e)))) (each k i)
-
-    pub judged-lowest-of : Judged (lowestOf f n) (Each n P) (λ m p. Q p m × LowestFailing n P p)
-    unfolding lowestOf
-    judged-lowest-of =
-        ⊎-elim
-        (λ h. rw (h .0) (inl (refl, λ k i. fine-row k i (h .1 .fails k (i .0) (i .1)))))
-        (λ h.
-        let r = lowest (refuses f) n in
-        rw (at-row f (lowest (refuses f) n) (h .pos))
-        (⊎-elim (λ g. absurd (omega (arith, ltb-true 0 (f r .number) (h .passes), g .0)))
-        (λ g.
-        inr (
-          g .0,
-          rw (g .1 .0)
-              (g .1 .1, record { within = (h .pos, h .within); fails = g .1 .2; below = λ k a l. fine-row k (a, omega (arith, h .within)) (h .below k a l) }),
-        ))
-        (each r (h .pos, h .within))))
-        (lowest-cases (refuses f) n)
-
--- a test that asks one thing
-judged-once : (b : Bool) (m p : ℕ) (P : Type 0) (Q : Type 0) → (m ≡ 0 → ⊥) → (b ≡ false → P) → (b ≡ true → Q) → Judged (refusedIf b m p) P (λ x y. (x ≡ m) × (y ≡ p) × Q)
-judged-once true m p P Q some f g = inr (some, (refl, refl, g refl))
-judged-once false m p P Q some f g = inl (refl, f refl)
+use Rattle.tile.specs.Facts.{Sizes, NodesIn, FacesIn, LinksIn, Succeeded, OnePredecessor, NoTwoPredecessors, FirstEdgeTouches, RingFaceIn, OneRun, EmptyRing, StartsOnSide, StartRight, Reaches, NotNamedBefore, OnARing}
 
 -- a row that is not 0 is a row of the list
 entry-in : (l : List ℕ) (r : ℕ) → 0 < entry l r → In (length l) r

@@ -12,7 +12,7 @@ use Rattle.refusal.specs.declared.Refusal.{Refusal}
 use Rattle.refusal.specs.Order.{refusal, fine, refusedIf, located, lowestOf, firstOf}
 use Rattle.side.specs.declared.Successor.{Successor}
 use Rattle.side.specs.declared.Successor.the-variants.{Side, Wrong}
-use Rattle.side.specs.Edges.{outside}
+use Rattle.side.specs.Edges.{Edges, outside}
 use Rattle.side.specs.Successor.{successor, after}
 use Rattle.tile.specs.Columns.{Tile, E, F, R, N, sides, mostRows, startSide, emptyStart}
 use Rattle.tile.specs.declared.Verdict.{Verdict}
@@ -50,29 +50,43 @@ abbrev pub refusedSide : ℕ → Successor → Refusal
 refusedSide s (Side u) = fine
 refusedSide s (Wrong n) = refusal n s
 
+abbrev pub edgeSideRefusal : Edges → ℕ → Refusal
+edgeSideRefusal t s = refusedSide s (successor t s)
+
 abbrev pub sideRefusal : Tile → ℕ → Refusal
-sideRefusal t s = refusedSide s (successor (t .edg) s)
+sideRefusal t = edgeSideRefusal (t .edg)
 
 -- 27: "each node's first_edge in 1..E and touching it"
+abbrev pub edgeAway : List ℕ → List ℕ → ℕ → ℕ → Bool
+edgeAway startNode endNode n e = outside (length startNode) e || (not (eqb (entry startNode e) n) && not (eqb (entry endNode e) n))
+
 abbrev pub firstEdgeWrong : Tile → ℕ → Bool
-firstEdgeWrong t n =
-    outside (E t) (entry (t .firstEdge) n)
-    || (not (eqb (entry (t .edg .startNode) (entry (t .firstEdge) n)) n) && not (eqb (entry (t .edg .endNode) (entry (t .firstEdge) n)) n))
+firstEdgeWrong t n = edgeAway (t .edg .startNode) (t .edg .endNode) n (entry (t .firstEdge) n)
 
 -- 28: "every ring's face in 1..F"
+abbrev pub entryOutside : ℕ → List ℕ → ℕ → Bool
+entryOutside most a r = outside most (entry a r)
+
 abbrev pub ringFaceOutside : Tile → ℕ → Bool
-ringFaceOutside t r = outside (F t) (entry (t .facId) r)
+ringFaceOutside t = entryOutside (F t) (t .facId)
 
 -- ring row r begins a run of rows of one face, and the face's ring_ptr names another row
+abbrev pub beginsElsewhere : List ℕ → List ℕ → ℕ → Bool
+beginsElsewhere ringPtr facId r = not (eqb (entry facId (pred r)) (entry facId r)) && not (eqb (entry ringPtr (entry facId r)) r)
+
 abbrev pub runElsewhere : Tile → ℕ → Bool
-runElsewhere t r = not (eqb (entry (t .facId) (pred r)) (entry (t .facId) r)) && not (eqb (entry (t .ringPtr) (entry (t .facId) r)) r)
+runElsewhere t = beginsElsewhere (t .ringPtr) (t .facId)
 
 -- 28: "its ring rows being exactly one unbroken run that starts at its ring_ptr": the row that ring_ptr names is the face's,
 -- and no run of the face begins elsewhere
+abbrev pub pointsAway : List ℕ → List ℕ → ℕ → Bool
+pointsAway ringPtr facId f = not (eqb (entry facId (entry ringPtr f)) f)
+
+abbrev pub runBroken : List ℕ → List ℕ → ℕ → Bool
+runBroken ringPtr facId f = pointsAway ringPtr facId f || ltb 0 (lowest (λ r. eqb (entry facId r) f && beginsElsewhere ringPtr facId r) (length facId))
+
 abbrev pub runWrong : Tile → ℕ → Bool
-runWrong t f =
-    not (eqb (entry (t .facId) (entry (t .ringPtr) f)) f)
-    || ltb 0 (lowest (λ r. eqb (entry (t .facId) r) f && runElsewhere t r) (R t))
+runWrong t = runBroken (t .ringPtr) (t .facId)
 
 -- 29: a start that is neither a side with the ring's face nor the allowed 0
 abbrev pub startWrong : Tile → ℕ → Bool

@@ -37,14 +37,21 @@ sides t = 2 * E t
 abbrev pub mostRows : ℕ
 mostRows = 1000000
 
--- "Ring rows name a face and a start edge. The start side is the one with the ring's face; if both have it, the right one."
--- 0 where the start edge is none of 1..E or neither side has the face
+-- "The start side is the one with the ring's face; if both have it, the right one."
+-- Of the edge e, of `edgeRows` with these faces: 0 where e is none of 1..E or neither side has the face f
+abbrev pub sideWith : ℕ → List ℕ → List ℕ → ℕ → ℕ → ℕ
+sideWith edgeRows rightFace leftFace f e =
+    cond (outside edgeRows e) 0
+    (cond (eqb (entry rightFace e) f) (right e)
+    (cond (eqb (entry leftFace e) f) (left e) 0))
+
+-- "Ring rows name a face and a start edge."
 unfoldable pub startSide : Tile → ℕ → ℕ
-startSide t r =
-    cond (outside (E t) (entry (t .startEdge) r)) 0
-    (cond (eqb (entry (t .edg .rightFace) (entry (t .startEdge) r)) (entry (t .facId) r)) (right (entry (t .startEdge) r))
-    (cond (eqb (entry (t .edg .leftFace) (entry (t .startEdge) r)) (entry (t .facId) r)) (left (entry (t .startEdge) r)) 0))
+startSide t r = sideWith (E t) (t .edg .rightFace) (t .edg .leftFace) (entry (t .facId) r) (entry (t .startEdge) r)
 
 -- "Start 0 is allowed only in the one ring of a tile with E = 0 and F = 1."
+abbrev pub emptyAllowed : ℕ → ℕ → ℕ → ℕ → Bool
+emptyAllowed edgeRows faceRows ringRows e = eqb e 0 && (eqb edgeRows 0 && (eqb faceRows 1 && eqb ringRows 1))
+
 unfoldable pub emptyStart : Tile → ℕ → Bool
-emptyStart t r = eqb (entry (t .startEdge) r) 0 && (eqb (E t) 0 && (eqb (F t) 1 && eqb (R t) 1))
+emptyStart t r = emptyAllowed (E t) (F t) (R t) (entry (t .startEdge) r)

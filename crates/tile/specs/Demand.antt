@@ -5,6 +5,7 @@ use mathlib.Core.Path.{_≡_}
 use mathlib.Core.List.{List, _++_}
 use Prim.Native.Nat.{ℕ, suc, _≤_, _<_}
 use lib.ListN.{length, drop}
+use Rattle.laws.specs.Lowest.{In, Each}
 use Rattle.laws.specs.Sums.{sum}
 use Rattle.laws.specs.Orbit.{entry}
 use Rattle.side.specs.Edges.{face}
@@ -13,7 +14,6 @@ use Rattle.side.specs.declared.Successor.the-variants.{Side}
 use Rattle.tile.specs.Columns.{Tile, E, R, sides, startSide}
 use Rattle.tile.specs.Check.{marksAfter}
 use Rattle.tile.specs.Walk.{walkOf, sidesWritten, ringSteps, ringSides}
-use Rattle.tile.specs.Facts.{In, Each}
 use Rattle.tile.specs.declared.Walked.the-variants.{Steps}
 
 -- the list of a closed ring: it starts with the ring's start side, each next is the successor of the one before, the

@@ -1,27 +1,13 @@
 -- The listed facts about nodes, faces, edges and rings, in the paper's words; and what each refusal says.
 use mathlib.Core.Path.{_≡_}
 use mathlib.Core.Logic.{_⊎_}
-use mathlib.Core.List.{List}
-use Prim.Native.Nat.{ℕ, suc, _+_, _*_, _≤_, _<_}
+use Prim.Native.Nat.{ℕ, suc, _+_, _≤_, _<_}
 use lib.ListN.{length}
+use Rattle.laws.specs.Lowest.{In, Each, LowestFailing}
 use Rattle.laws.specs.Orbit.{entry, iterate}
-use Rattle.side.specs.Edges.{Edges, edgeOf, right, left, face}
+use Rattle.side.specs.Edges.{right, left, face}
 use Rattle.side.specs.Successor.{Follows, Fault, after}
 use Rattle.tile.specs.Columns.{Tile, E, F, R, N, sides, mostRows, startSide}
-
--- x is one of 1..most
-abbrev pub In : ℕ → ℕ → Type 0
-In most x = (0 < x) × (x ≤ most)
-
--- P holds at each of 1..n
-abbrev pub Each : ℕ → (ℕ → Type 0) → Type 0
-Each n P = (k : ℕ) → In n k → P k
-
--- p is the lowest of 1..n at which P fails
-pub record LowestFailing (n : ℕ) (P : ℕ → Type 0) (p : ℕ) : Type 0 where
-  pub within : In n p
-  pub fails : P p → ⊥
-  pub below : (k : ℕ) → 0 < k → k < p → P k
 
 -- "sizes (15)"
 pub record Sizes (t : Tile) : Type 0 where

@@ -1,0 +1,16 @@
+pub mod ColumnsShown
+pub mod ColumnsJudged
+pub mod TestsInWords
+pub mod InOrder
+pub mod AcceptedExactly
+pub mod RefusedExactly
+pub mod StepsInOrder
+pub mod LayoutMeans
+pub mod ColumnOfName
+pub mod PlaceLaws
+pub mod CountLaws
+pub mod NameLaws
+pub mod StepLaws
+pub mod JudgeLaws
+pub mod LayoutLaws
+pub mod HeaderLaws

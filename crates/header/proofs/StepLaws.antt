@@ -1,0 +1,43 @@
+-- The step at a place, as a loop over the columns finds it. Assumes nothing.
+use mathlib.Core.Path.{_≡_, refl, sym, ap, _∙_}
+use mathlib.Core.Bool.{Bool, true, false, cond}
+use mathlib.Core.List.{List}
+use Prim.Native.Nat.{ℕ, zero, suc, pred, _+_, _≤_, _<_}
+use native.Mathlib.Omega.{arith}
+use borrow.Author.Tests.{eq-eqb, ne-eqb}
+use lib.Dec.{eqb}
+use Rattle.laws.specs.Lowest.{lowest, None}
+use Rattle.laws.proofs.LowestLaws.{none-next, lowest-found, lowest-nothing}
+use Rattle.refusal.specs.declared.Refusal.{Refusal}
+use Rattle.refusal.specs.Order.{refusal}
+use Rattle.header.specs.declared.Definition.{Definition}
+use Rattle.header.specs.declared.Step.{Step}
+use Rattle.header.specs.declared.Step.the-variants.{Column, Done, Refused}
+use Rattle.header.specs.Places.{definition, placeAfter}
+use Rattle.header.specs.Steps.{stepFrom}
+use Rattle.header.specs.Stages.{stepIn}
+
+-- column k starts at the place
+abbrev pub standsAt : List ℕ → ℕ → ℕ → Bool
+standsAt s place k = eqb (placeAfter s (pred k)) place
+
+module _ (s : List ℕ) (place k at : ℕ) (h : None (standsAt s place) k) (e : at ≡ placeAfter s k) where
+  pub not-here : (place ≡ at → ⊥) → None (standsAt s place) (k + 1)
+  not-here n = none-next (standsAt s place) k h (ne-eqb (placeAfter s k) place (λ q. n (sym q ∙ sym e)))
+
+  pub step-column : (n : ℕ) (d : Definition) → k < n → place ≡ at → d ≡ definition s at → Column d ≡ stepIn s n place
+  unfolding stepIn
+  step-column n d l p q =
+      let t : standsAt s place (suc k) ≡ true = eq-eqb (placeAfter s k) place (sym e ∙ sym p) in
+      rw (lowest-found (standsAt s place) n k l h t, q, p)
+
+  nothing : (n : ℕ) → n ≤ k → k ≤ n → (lowest (standsAt s place) n ≡ 0) × (placeAfter s n ≡ at)
+  nothing n a b = let q : n ≡ k = omega arith in (rw q (lowest-nothing (standsAt s place) k h), rw q (sym e))
+
+  pub step-done : (n : ℕ) → n ≤ k → k ≤ n → place ≡ at → Done ≡ stepIn s n place
+  unfolding stepIn
+  step-done n a b p = rw (nothing n a b .0, nothing n a b .1, eq-eqb place at p)
+
+  pub step-none : (n : ℕ) (r : Refusal) → n ≤ k → k ≤ n → (place ≡ at → ⊥) → r ≡ refusal 13 place → Refused r ≡ stepIn s n place
+  unfolding stepIn
+  step-none n r a b p q = rw (nothing n a b .0, nothing n a b .1, ne-eqb place at p, q)

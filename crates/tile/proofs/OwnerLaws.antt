@@ -1,0 +1,111 @@
+-- What the tests' answers say of the successor as a function on sides.
+-- Assumes nothing.
+use mathlib.Core.Path.{_≡_, refl, sym, ap, _∙_}
+use mathlib.Core.Bool.{Bool, true, false, cond, _&&_, true≢false}
+use mathlib.Core.List.{List}
+use Prim.Native.Nat.{ℕ, suc, _+_, _*_, _≤_, _<_}
+use native.Mathlib.Numerals.{add-one}
+use lib.Dec.{eqb, ltb}
+use lib.ListN.{length, getD}
+use native.Mathlib.Omega.{arith}
+use borrow.Author.Tests.{eq-eqb, ltb-false}
+use Rattle.laws.specs.Sums.{Into, Inj}
+use Rattle.laws.specs.Orbit.{entry, firstDoubled, firstTaken}
+use Rattle.laws.specs.Buffer.{front}
+use Rattle.laws.specs.Marks.{zeros, ownerAt, Starts}
+use Rattle.laws.specs.Lowest.{lowest}
+use Rattle.laws.proofs.LowestLaws.{bool-cases, lowest-zero}
+use Rattle.laws.proofs.MarkLaws.{single, over-front}
+use Rattle.refusal.specs.declared.Refusal.{Refusal}
+use Rattle.refusal.specs.Order.{fine, lowestOf}
+use Rattle.refusal.proofs.OrderLaws.{all-passed}
+use Rattle.side.specs.Edges.{Edges, edgeCount, sideCount, outside, right, left}
+use Rattle.side.specs.Successor.{successor, sideOf, after}
+use Rattle.side.specs.declared.Successor.{Successor}
+use Rattle.side.specs.declared.Successor.the-variants.{Side, Wrong}
+use Rattle.side.proofs.SideLaws.{not-outside, Sound, successor-sound}
+use Rattle.tile.specs.Columns.{sideWith}
+use Rattle.tile.specs.Check.{refusedSide, edgeSideRefusal}
+use Rattle.tile.specs.Stages.{startOf, lacksStart, ownersPainted}
+
+-- a side that is not refused has a successor among the sides
+sound-goes : (n s : ℕ) (c : Successor) → Sound n c → refusedSide s c .number ≤ 0 → (0 < sideOf c) × (sideOf c ≤ n)
+sound-goes n s (Side u) h e = h
+sound-goes n s (Wrong w) h e = absurd (omega (arith, h .0))
+
+pub goes : (t : Edges) → lowestOf (edgeSideRefusal t) (sideCount t) ≡ fine → Into (after t) (sideCount t) (sideCount t)
+goes t e k a b =
+    sound-goes (sideCount t) k (successor t k) (successor-sound t k)
+    (ltb-false 0 (edgeSideRefusal t k .number) (all-passed (edgeSideRefusal t) (sideCount t) (ap (λ (r : Refusal). r .number) e) .fails k a b))
+
+-- exactly one predecessor: no two sides have one successor
+pub apart : (t : Edges) → lowestOf (edgeSideRefusal t) (sideCount t) ≡ fine → firstDoubled (after t) (sideCount t) ≡ 0 → Inj (after t) (sideCount t)
+apart t e d = single (after t) (sideCount t) (goes t e) d
+
+-- ---- the rings' starts
+start-cases : (m e : ℕ) (x y : Bool) → e ≤ m → cond x (right e) (cond y (left e) 0) ≤ 2 * m
+start-cases m e true y h = omega arith
+start-cases m e false true h = omega arith
+start-cases m e false false h = omega arith
+
+pub side-with-within : (m : ℕ) (rf lf : List ℕ) (f e : ℕ) → sideWith m rf lf f e ≤ 2 * m
+side-with-within m rf lf f e =
+    bool-cases (outside m e)
+    (λ o. rw o (omega arith))
+    (λ o. rw o (start-cases m e (eqb (entry rf e) f) (eqb (entry lf e) f) (not-outside m e o .1)))
+
+and-false : (a b : Bool) → (a && b) ≡ false → a ≡ true → b ≡ false
+and-false true b e t = e
+and-false false b e t = absurd (true≢false (sym t))
+
+module _ (t : Edges) (fi se : List ℕ) where
+  -- a start as the code finds it
+  pub start-is : (i a e : ℕ) → e ≡ entry se (i + 1) → a ≡ sideWith (edgeCount t) (t .rightFace) (t .leftFace) (getD fi i 0) e → a ≡ startOf t fi se (suc i)
+  unfolding startOf
+  start-is i a e p q = q ∙ ap (sideWith (edgeCount t) (t .rightFace) (t .leftFace) (getD fi i 0)) (p ∙ ap (entry se) (add-one i))
+
+  pub start-within : (r : ℕ) → startOf t fi se r ≤ sideCount t
+  unfolding startOf
+  start-within r = side-with-within (edgeCount t) (t .rightFace) (t .leftFace) (entry fi r) (entry se r)
+
+  edgeless : (r : ℕ) → lacksStart t fi se r ≡ false → startOf t fi se r ≡ 0 → sideCount t ≡ 0
+  unfolding lacksStart
+  edgeless r e z =
+      let h = and-false (eqb (startOf t fi se r) 0) (ltb 0 (edgeCount t)) e (eq-eqb (startOf t fi se r) 0 z) in
+      omega (arith, ltb-false 0 (edgeCount t) h)
+
+  pub starts-known : lowest (lacksStart t fi se) (length fi) ≡ 0 → Starts (sideCount t) (startOf t fi se) (length fi)
+  starts-known e = record {
+    within = λ r a b. start-within r;
+    alone = λ q r a b c y z. edgeless q (lowest-zero (lacksStart t fi se) (length fi) e .fails q a (omega arith)) y;
+  }
+
+-- what the painting is handed, read once
+pub record Painting (t : Edges) (fi se : List ℕ) : Type 0 where
+  pub into : Into (after t) (sideCount t) (sideCount t)
+  pub inj : Inj (after t) (sideCount t)
+  pub starts : Starts (sideCount t) (startOf t fi se) (length fi)
+
+pub painting : (t : Edges) (fi se : List ℕ) → lowestOf (edgeSideRefusal t) (sideCount t) ≡ fine → firstDoubled (after t) (sideCount t) ≡ 0
+    → lowest (lacksStart t fi se) (length fi) ≡ 0 → Painting t fi se
+painting t fi se a b c = record { into = goes t a; inj = apart t a b; starts = starts-known t fi se c }
+
+-- ---- the marks where the painting stops: at a row that is taken, or after the last
+module _ (t : Edges) (fi se : List ℕ) (d m m₀ : List ℕ) (p : m₀ ≡ front zeros (sideCount t) d) where
+  pub stopped-at : (r : ℕ) → m ≡ front (ownerAt (after t) (sideCount t) (startOf t fi se) r) (sideCount t) m₀
+      → r + 1 ≡ firstTaken (after t) (sideCount t) (startOf t fi se) (length fi) → m ≡ ownersPainted t fi se d
+  unfolding ownersPainted
+  stopped-at r q e =
+      let z : firstTaken (after t) (sideCount t) (startOf t fi se) (length fi) ≡ suc r = sym e ∙ add-one r in
+      rw z (over-front (ownerAt (after t) (sideCount t) (startOf t fi se) r) zeros (sideCount t) d m₀ m p q)
+
+  pub stopped-last : m ≡ front (ownerAt (after t) (sideCount t) (startOf t fi se) (length fi)) (sideCount t) m₀
+      → 0 ≡ firstTaken (after t) (sideCount t) (startOf t fi se) (length fi) → m ≡ ownersPainted t fi se d
+  unfolding ownersPainted
+  stopped-last q e = rw (← e) (over-front (ownerAt (after t) (sideCount t) (startOf t fi se) (length fi)) zeros (sideCount t) d m₀ m p q)
+
+-- the marks after the painting, where no row was taken
+pub all-painted : (t : Edges) (fi se d m : List ℕ) → firstTaken (after t) (sideCount t) (startOf t fi se) (length fi) ≡ 0 → m ≡ ownersPainted t fi se d
+    → m ≡ front (ownerAt (after t) (sideCount t) (startOf t fi se) (length fi)) (sideCount t) d
+unfolding ownersPainted
+all-painted t fi se d m z e = rw z at e

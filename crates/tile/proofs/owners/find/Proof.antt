@@ -1,0 +1,68 @@
+-- `tile::owners::find` meets its contract. The loop's invariant: none of the marks passed holds the value.
+-- Assumes nothing.
+use native.Mathlib.Omega.{arith}
+use Prim.Native.Nat.{ℕ, _≤_, _-_}
+use lib.ListN.{getD}
+use lib.Dec.{eqb}
+use borrow.Author.Tests.{eq-eqb, ne-eqb}
+use Rattle.laws.proofs.LowestLaws.{none-start, none-next, lowest-next, lowest-ended}
+use Rattle.laws.specs.Lowest.{None}
+use Rattle.laws.specs.Orbit.{entry}
+use borrow.Author.Needs.{needs}
+use Rattle.tile.proofs.owners.find.Statement.{statement}
+use Rattle.tile.proofs.owners.find.Tie as tie
+
+abbrev Inv-loop : tie.InvT-loop
+Inv-loop marks n v i₀ i = (i ≤ n) × None (λ (s : ℕ). eqb (entry marks s) v) i
+
+abbrev μ-loop : tie.MeasureT-loop
+μ-loop marks n v i₀ i = n - i
+
+loop-holds : tie.Need-loop-holds Inv-loop μ-loop
+loop-holds c = (omega arith, none-start _)
+
+mul-if1 : tie.Need-mul-if1 Inv-loop μ-loop
+mul-if1 c = search needs
+
+shared-slice-read-if1 : tie.Need-shared-slice-read-if1 Inv-loop μ-loop
+shared-slice-read-if1 c = search needs
+
+add-result : tie.Need-add-result Inv-loop μ-loop
+add-result c = search needs
+
+returns : tie.Need-returns Inv-loop μ-loop
+returns c =
+    let a = (c .before .before .before .before .args) in
+    lowest-next (λ (s : ℕ). eqb (entry (a .marks .now) s) (a .v)) (a .n) ((c .before .before .before .loop) .i) ((c .before .before .loop-test) .taken) ((c .before .before .before .loop) .inv .1) (eq-eqb (getD (a .marks .now) ((c .before .before .before .loop) .i) 0) (a .v) ((c .if1) .taken))
+
+add-i : tie.Need-add-i Inv-loop μ-loop
+add-i c = search needs
+
+loop-less : tie.Need-loop-less Inv-loop μ-loop
+loop-less c = search needs
+
+loop-again : tie.Need-loop-again Inv-loop μ-loop
+loop-again c =
+    let a = (c .before .before .before .before .args) in
+    (omega arith, none-next (λ (s : ℕ). eqb (entry (a .marks .now) s) (a .v)) ((c .before .before .before .loop) .i) ((c .before .before .before .loop) .inv .1) (ne-eqb (getD (a .marks .now) ((c .before .before .before .loop) .i) 0) (a .v) ((c .if1) .left)))
+
+returns-2 : tie.Need-returns-2 Inv-loop μ-loop
+returns-2 c =
+    let a = (c .before .before .args) in
+    lowest-ended (λ (s : ℕ). eqb (entry (a .marks .now) s) (a .v)) (a .n) ((c .before .loop) .i) ((c .loop-test) .left) ((c .before .loop) .inv .0) ((c .before .loop) .inv .1)
+
+pub find-spec : {M : Type 1} → statement M
+find-spec =
+    tie.close
+    (tie.spec
+    Inv-loop
+    μ-loop
+    loop-holds
+    mul-if1
+    shared-slice-read-if1
+    add-result
+    returns
+    add-i
+    loop-less
+    loop-again
+    returns-2)

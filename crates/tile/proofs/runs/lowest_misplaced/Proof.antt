@@ -1,0 +1,59 @@
+-- `tile::runs::lowest_misplaced` meets its contract. The loop's invariant: the least face of the rows passed that begin a run elsewhere.
+-- Assumes nothing.
+use mathlib.Core.Path.{_≡_, refl, ap, _∙_}
+use native.Mathlib.Omega.{arith}
+use Prim.Native.Nat.{_≤_, _-_}
+use lib.ListN.{length}
+use Rattle.laws.proofs.LeastLaws.{least-next}
+use Rattle.laws.specs.Lowest.{least}
+use Rattle.laws.specs.Orbit.{entry}
+use Rattle.tile.specs.Check.{beginsElsewhere}
+use borrow.Author.Needs.{needs}
+use Rattle.tile.proofs.runs.lowest_misplaced.Statement.{statement}
+use Rattle.tile.proofs.runs.lowest_misplaced.Tie as tie
+
+abbrev Inv-loop : tie.InvT-loop
+Inv-loop ring-ptr fac-id low₀ i₀ low i = (i ≤ length fac-id) × (low ≡ least (beginsElsewhere ring-ptr fac-id) (entry fac-id) i)
+
+abbrev μ-loop : tie.MeasureT-loop
+μ-loop ring-ptr fac-id low₀ i₀ low i = length fac-id - i
+
+loop-holds : tie.Need-loop-holds Inv-loop μ-loop
+loop-holds c = (omega arith, refl)
+
+misplaced-requires : tie.Need-misplaced-requires Inv-loop μ-loop
+misplaced-requires c κs = search needs
+
+lesser-of-requires : tie.Need-lesser-of-requires Inv-loop μ-loop
+lesser-of-requires c κs = search needs
+
+add-i : tie.Need-add-i Inv-loop μ-loop
+add-i c = search needs
+
+loop-less : tie.Need-loop-less Inv-loop μ-loop
+loop-less c = search needs
+
+loop-again : tie.Need-loop-again Inv-loop μ-loop
+loop-again c =
+    let a = (c .before .before .before .before .before .before .args) in
+    (omega arith, least-next (beginsElsewhere (a .ring-ptr .now) (a .fac-id .now)) (entry (a .fac-id .now)) ((c .before .before .before .loop) .i) ((c .before .before .before .loop) .low) ((c .before .misplaced) .result) ((c .lesser-of) .result) ((c .before .before .before .loop) .inv .1) ((c .before .misplaced) .ensures) ((c .lesser-of) .ensures))
+
+returns : tie.Need-returns Inv-loop μ-loop
+returns c =
+    let a = (c .before .before .before .before .args) in
+    let q : (c .before .loop) .i ≡ length (a .fac-id .now) = omega arith in
+    (c .before .loop) .inv .1 ∙ ap (least (beginsElsewhere (a .ring-ptr .now) (a .fac-id .now)) (entry (a .fac-id .now))) q
+
+pub lowest-misplaced-spec : {M : Type 1} → statement M
+lowest-misplaced-spec =
+    tie.close
+    (tie.spec
+    Inv-loop
+    μ-loop
+    loop-holds
+    misplaced-requires
+    lesser-of-requires
+    add-i
+    loop-less
+    loop-again
+    returns)

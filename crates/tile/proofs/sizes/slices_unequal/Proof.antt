@@ -1,0 +1,30 @@
+-- `tile::sizes::slices_unequal` meets its contract: each answer is the branch of the definition with the tests that led to it.
+-- Assumes nothing.
+use borrow.Author.Tests.{eq-eqb, ne-eqb}
+use Rattle.tile.proofs.sizes.slices_unequal.Statement.{statement}
+use Rattle.tile.proofs.sizes.slices_unequal.Tie as tie
+
+returns : tie.Need-returns
+returns c = search (eq-eqb, ne-eqb)
+
+returns-2 : tie.Need-returns-2
+returns-2 c = search (eq-eqb, ne-eqb)
+
+returns-3 : tie.Need-returns-3
+returns-3 c = search (eq-eqb, ne-eqb)
+
+returns-4 : tie.Need-returns-4
+returns-4 c = search (eq-eqb, ne-eqb)
+
+returns-5 : tie.Need-returns-5
+returns-5 c = search (eq-eqb, ne-eqb)
+
+returns-6 : tie.Need-returns-6
+returns-6 c = search (eq-eqb, ne-eqb)
+
+returns-7 : tie.Need-returns-7
+returns-7 c = search (eq-eqb, ne-eqb)
+
+pub slices-unequal-spec : {M : Type 1} → statement M
+slices-unequal-spec =
+    tie.close (tie.spec returns returns-2 returns-3 returns-4 returns-5 returns-6 returns-7)

@@ -1,0 +1,88 @@
+-- The list of tests in parts, each over the columns that it needs: the list of `Check` is these parts joined.
+use mathlib.Core.Bool.{Bool, cond, not, _&&_}
+use mathlib.Core.List.{List, [], _∷_, _++_}
+use Prim.Native.Nat.{ℕ, zero, suc}
+use lib.Dec.{eqb, ltb}
+use lib.ListN.{length}
+use Rattle.laws.specs.Lowest.{lowest}
+use Rattle.laws.specs.Buffer.{front}
+use Rattle.laws.specs.Marks.{zeros, ownerAt}
+use Rattle.laws.specs.Orbit.{entry, iterate, firstTaken, firstUnmet, firstDoubled}
+use Rattle.refusal.specs.declared.Refusal.{Refusal}
+use Rattle.refusal.specs.Order.{located, lowestOf}
+use Rattle.side.specs.Edges.{Edges, edgeCount, sideCount}
+use Rattle.side.specs.Successor.{after}
+use Rattle.tile.specs.declared.Walked.{Walked}
+use Rattle.tile.specs.declared.Walked.the-variants.{Steps, Refused}
+use Rattle.tile.specs.Columns.{Tile, F, R, N, sides, sideWith, startSide, emptyAllowed}
+use Rattle.tile.specs.Check.{rowOutside, edgeSideRefusal, edgeAway, entryOutside, runBroken}
+
+-- 20 to 25: the rows and the sides of the edge table, in a tile with so many faces and nodes
+unfoldable pub edgeTests : Edges → ℕ → ℕ → List Refusal
+edgeTests t faces nodes =
+    located 20 (lowest (rowOutside nodes (t .startNode) (t .endNode)) (edgeCount t))
+    ∷ located 21 (lowest (rowOutside faces (t .rightFace) (t .leftFace)) (edgeCount t))
+    ∷ located 22 (lowest (rowOutside (edgeCount t) (t .rightEdge) (t .leftEdge)) (edgeCount t))
+    ∷ lowestOf (edgeSideRefusal t) (sideCount t)
+    ∷ []
+
+-- 29: of a ring with the face f and the start edge e, in a tile with so many edges, faces and rings
+unfoldable pub startMissing : ℕ → ℕ → ℕ → List ℕ → List ℕ → ℕ → ℕ → Bool
+startMissing edgeRows faceRows ringRows rightFace leftFace f e =
+    not (emptyAllowed edgeRows faceRows ringRows e) && eqb (sideWith edgeRows rightFace leftFace f e) 0
+
+-- 27 to 29: the first edges, the rings' faces, the faces' runs and the rings' starts
+unfoldable pub ringTests : List ℕ → List ℕ → List ℕ → List ℕ → List ℕ → List ℕ → List ℕ → List ℕ → List Refusal
+ringTests startNode endNode rightFace leftFace ringPtr facId startEdge firstEdge =
+    located 27 (lowest (λ n. edgeAway startNode endNode n (entry firstEdge n)) (length firstEdge))
+    ∷ located 28 (lowest (entryOutside (length ringPtr) facId) (length facId))
+    ∷ located 28 (lowest (runBroken ringPtr facId) (length ringPtr))
+    ∷ located 29 (lowest (λ r. startMissing (length startNode) (length ringPtr) (length facId) rightFace leftFace (entry facId r) (entry startEdge r)) (length facId))
+    ∷ []
+
+-- the start side of ring row r
+unfoldable pub startOf : Edges → List ℕ → List ℕ → ℕ → ℕ
+startOf t facId startEdge r = sideWith (edgeCount t) (t .rightFace) (t .leftFace) (entry facId r) (entry startEdge r)
+
+-- ring row r has no start side, in a tile that has edges
+unfoldable pub lacksStart : Edges → List ℕ → List ℕ → ℕ → Bool
+lacksStart t facId startEdge r = eqb (startOf t facId startEdge r) 0 && ltb 0 (edgeCount t)
+
+-- the ring rows that are painted: those before the first that is taken, or all
+abbrev pub rowsPainted : ℕ → ℕ → ℕ
+rowsPainted zero rows = rows
+rowsPainted (suc r) rows = r
+
+-- 30 and 31: the rings' cycles
+unfoldable pub ownerTests : Edges → List ℕ → List ℕ → List Refusal
+ownerTests t facId startEdge =
+    located 30 (firstTaken (after t) (sideCount t) (startOf t facId startEdge) (length facId))
+    ∷ located 31 (firstUnmet (after t) (sideCount t) (startOf t facId startEdge) (length facId))
+    ∷ []
+
+-- the owner marks after the rings are painted, on a refusal too
+unfoldable pub ownersPainted : Edges → List ℕ → List ℕ → List ℕ → List ℕ
+ownersPainted t facId startEdge d =
+    front (ownerAt (after t) (sideCount t) (startOf t facId startEdge) (rowsPainted (firstTaken (after t) (sideCount t) (startOf t facId startEdge) (length facId)) (length facId))) (sideCount t) d
+
+-- 20 to 31: what is tested once the sizes and the owner space are right
+abbrev pub ringsOf : Tile → List Refusal
+ringsOf t = ringTests (t .edg .startNode) (t .edg .endNode) (t .edg .rightFace) (t .edg .leftFace) (t .ringPtr) (t .facId) (t .startEdge) (t .firstEdge)
+
+abbrev pub ownersOf : Tile → List Refusal
+ownersOf t = ownerTests (t .edg) (t .facId) (t .startEdge)
+
+abbrev pub afterEdges : Tile → List Refusal
+afterEdges t = located 26 (firstDoubled (after (t .edg)) (sides t)) ∷ (ringsOf t ++ ownersOf t)
+
+unfoldable pub laterTests : Tile → List Refusal
+laterTests t = edgeTests (t .edg) (F t) (N t) ++ afterEdges t
+
+-- the marks after these tests: the owners, or zeros where one refuses
+unfoldable pub marksJudged : Tile → Refusal → List ℕ → List ℕ
+marksJudged t q d = cond (eqb (q .number) 0) (front (ownerAt (after (t .edg)) (sides t) (startSide t) (R t)) (sides t) d) (front zeros (sides t) d)
+
+-- the output after a walk from the side a: the sides of the steps, and nothing on a refusal
+abbrev pub pathWritten : Edges → ℕ → Walked → List ℕ → List ℕ
+pathWritten t a (Steps k) d = front (λ i. iterate (after t) i a) k d
+pathWritten t a (Refused q) d = d

@@ -1,0 +1,193 @@
+// 20 to 25, 27 and 28's range: tests over the rows of the columns, and over the sides.
+use refusal::Refusal;
+use side::Successor;
+ghost use mathlib.Core.Path.{_≡_};
+ghost use mathlib.Core.List.{[], _∷_};
+ghost use Prim.Native.Nat.{ℕ, _≤_};
+ghost use lib.ListN.{length};
+ghost use Rattle.laws.specs.Orbit.{entry};
+ghost use Rattle.laws.specs.Lowest.{lowest};
+ghost use Rattle.refusal.specs.Order.{located, firstOf, lowestOf};
+ghost use Rattle.side.specs.Edges.{Edges, edges, edgeCount, sideCount, outside};
+ghost use Rattle.tile.specs.Columns.{mostRows};
+ghost use Rattle.tile.specs.Stages.{edgeTests};
+ghost use Rattle.tile.specs.Check.{rowOutside, entryOutside, edgeAway, edgeSideRefusal};
+
+// Whether x is none of 1..most.
+pub(crate) fn is_outside(most: usize, x: usize) -> bool
+    ensures { λ r. ⌜ r ≡ outside most x ⌝ }
+{
+    if x == 0 {
+        return true;
+    }
+    if most < x {
+        return true;
+    }
+    false
+}
+
+// Whether one of two columns has a number outside 1..most in row e.
+fn row_outside(most: usize, a: &[u32], b: &[u32], e: usize) -> bool
+    ensures { λ r. ⌜ r ≡ rowOutside most (now (a .entry)) (now (b .entry)) e ⌝ }
+{
+    if is_outside(most, side::row(a, e) as usize) {
+        return true;
+    }
+    if is_outside(most, side::row(b, e) as usize) {
+        return true;
+    }
+    false
+}
+
+// The lowest of the rows 1..n of two columns with a number outside 1..most, or 0.
+fn bad_row(most: usize, n: usize, a: &[u32], b: &[u32]) -> usize
+    ensures { λ r. ⌜ r ≡ lowest (rowOutside most (now (a .entry)) (now (b .entry))) n ⌝ }
+{
+    let mut i: usize = 0;
+    while i < n {
+        if row_outside(most, a, b, i + 1) {
+            return i + 1;
+        }
+        i += 1;
+    }
+    0
+}
+
+// The lowest of the rows of one column with a number outside 1..most, or 0.
+pub(crate) fn bad_entry(most: usize, a: &[u32]) -> usize
+    ensures { λ r. ⌜ r ≡ lowest (entryOutside most (now (a .entry))) (length (now (a .entry))) ⌝ }
+{
+    let mut i: usize = 0;
+    while i < a.len() {
+        if is_outside(most, a[i] as usize) {
+            return i + 1;
+        }
+        i += 1;
+    }
+    0
+}
+
+// Whether e is no edge or does not touch the node.
+fn is_away(start_node: &[u32], end_node: &[u32], node: usize, e: usize) -> bool
+    ensures { λ r. ⌜ r ≡ edgeAway (now («start_node» .entry)) (now («end_node» .entry)) node e ⌝ }
+{
+    if is_outside(start_node.len(), e) {
+        return true;
+    }
+    if side::row(start_node, e) as usize == node {
+        return false;
+    }
+    if side::row(end_node, e) as usize == node {
+        return false;
+    }
+    true
+}
+
+// The lowest node whose first_edge is no edge or does not touch it, or 0.
+pub(crate) fn bad_node(start_node: &[u32], end_node: &[u32], first_edge: &[u32]) -> usize
+    ensures { λ r. ⌜ r ≡ lowest (λ (n : ℕ). edgeAway (now («start_node» .entry)) (now («end_node» .entry)) n (entry (now («first_edge» .entry)) n)) (length (now («first_edge» .entry))) ⌝ }
+{
+    let mut i: usize = 0;
+    while i < first_edge.len() {
+        if is_away(start_node, end_node, i + 1, first_edge[i] as usize) {
+            return i + 1;
+        }
+        i += 1;
+    }
+    0
+}
+
+// What is wrong at the side s.
+fn judge_side(
+    start_node: &[u32],
+    end_node: &[u32],
+    right_face: &[u32],
+    left_face: &[u32],
+    right_edge: &[u32],
+    left_edge: &[u32],
+    s: usize,
+) -> Refusal
+    ensures { λ r. ⌜ r ≡ edgeSideRefusal (edges (now («start_node» .entry)) (now («end_node» .entry)) (now («right_face» .entry)) (now («left_face» .entry)) (now («right_edge» .entry)) (now («left_edge» .entry))) s ⌝ }
+{
+    match side::next_side(
+        start_node,
+        end_node,
+        right_face,
+        left_face,
+        right_edge,
+        left_edge,
+        s,
+    ) {
+        Successor::Side(_) => refusal::no_refusal(),
+        Successor::Wrong(number) => refusal::refuse(number, s),
+    }
+}
+
+// What is wrong at the lowest side that has no successor.
+fn judge_sides(
+    start_node: &[u32],
+    end_node: &[u32],
+    right_face: &[u32],
+    left_face: &[u32],
+    right_edge: &[u32],
+    left_edge: &[u32],
+) -> Refusal
+    requires { ⌜ length (now «start_node») ≤ mostRows ⌝ }
+    ensures { λ r. ⌜ r ≡ lowestOf (edgeSideRefusal (edges (now («start_node» .entry)) (now («end_node» .entry)) (now («right_face» .entry)) (now («left_face» .entry)) (now («right_edge» .entry)) (now («left_edge» .entry)))) (sideCount (edges (now («start_node» .entry)) (now («end_node» .entry)) (now («right_face» .entry)) (now («left_face» .entry)) (now («right_edge» .entry)) (now («left_edge» .entry)))) ⌝ }
+{
+    let n = 2 * start_node.len();
+    let mut i: usize = 0;
+    while i < n {
+        let q = judge_side(
+            start_node,
+            end_node,
+            right_face,
+            left_face,
+            right_edge,
+            left_edge,
+            i + 1,
+        );
+        if q.number != 0 {
+            return q;
+        }
+        i += 1;
+    }
+    refusal::no_refusal()
+}
+
+// 20 to 25, in order.
+pub(crate) fn judge_edges(
+    start_node: &[u32],
+    end_node: &[u32],
+    right_face: &[u32],
+    left_face: &[u32],
+    right_edge: &[u32],
+    left_edge: &[u32],
+    faces: usize,
+    nodes: usize,
+) -> Refusal
+    requires { ⌜ length (now «start_node») ≤ mostRows ⌝ }
+    ensures { λ r. ⌜ r ≡ firstOf (edgeTests (edges (now («start_node» .entry)) (now («end_node» .entry)) (now («right_face» .entry)) (now («left_face» .entry)) (now («right_edge» .entry)) (now («left_edge» .entry))) faces nodes) ⌝ }
+{
+    let n = start_node.len();
+    let a = refusal::refuse_at(20, bad_row(nodes, n, start_node, end_node));
+    if a.number != 0 {
+        return a;
+    }
+    let b = refusal::refuse_at(21, bad_row(faces, n, right_face, left_face));
+    if b.number != 0 {
+        return b;
+    }
+    let c = refusal::refuse_at(22, bad_row(n, n, right_edge, left_edge));
+    if c.number != 0 {
+        return c;
+    }
+    judge_sides(
+        start_node,
+        end_node,
+        right_face,
+        left_face,
+        right_edge,
+        left_edge,
+    )
+}

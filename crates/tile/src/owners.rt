@@ -1,0 +1,271 @@
+// 26, 30 and 31, with a mark for each side in the lent owner marks: the predecessors counted, and the rings' walks painted.
+use crate::starts;
+use refusal::Refusal;
+use side::Successor;
+ghost use mathlib.Core.Path.{_≡_};
+ghost use Prim.Native.Nat.{ℕ, suc, min, _+_, _*_, _≤_, _<_};
+ghost use lib.Dec.{eqb};
+ghost use lib.ListN.{length};
+ghost use Rattle.laws.specs.Orbit.{entry, firstDoubled, firstTaken};
+ghost use Rattle.laws.specs.Lowest.{lowest};
+ghost use Rattle.laws.specs.Buffer.{front};
+ghost use Rattle.laws.specs.Marks.{zeros, count, painted};
+ghost use Rattle.refusal.specs.Order.{fine, lowestOf, firstOf};
+ghost use Rattle.side.specs.Edges.{edges, sideCount};
+ghost use Rattle.side.specs.Successor.{after};
+ghost use Rattle.tile.specs.Columns.{mostRows};
+ghost use Rattle.tile.specs.Check.{edgeSideRefusal};
+ghost use Rattle.tile.specs.Stages.{startOf, lacksStart, ownerTests, ownersPainted};
+
+// The successor of the side s, or 0 where there is none.
+pub(crate) fn side_after(
+    start_node: &[u32],
+    end_node: &[u32],
+    right_face: &[u32],
+    left_face: &[u32],
+    right_edge: &[u32],
+    left_edge: &[u32],
+    s: usize,
+) -> usize
+    ensures { λ r. ⌜ r ≡ after (edges (now («start_node» .entry)) (now («end_node» .entry)) (now («right_face» .entry)) (now («left_face» .entry)) (now («right_edge» .entry)) (now («left_edge» .entry))) s ⌝ }
+{
+    match side::next_side(
+        start_node,
+        end_node,
+        right_face,
+        left_face,
+        right_edge,
+        left_edge,
+        s,
+    ) {
+        Successor::Side(u) => u,
+        Successor::Wrong(_) => 0,
+    }
+}
+
+// Sets the first n marks to zero.
+pub(crate) fn clear(marks: &mut [u32], n: usize)
+    requires { ⌜ n ≤ length (now marks) ⌝ }
+    ensures { λ _. ⌜ now (marks .exit) ≡ front zeros n (now (marks .entry)) ⌝ }
+{
+    let mut i: usize = 0;
+    while i < n {
+        marks[i] = 0;
+        i += 1;
+    }
+}
+
+// The lowest of the first n marks that holds v, counted from 1, or 0.
+fn find(marks: &[u32], n: usize, v: u32) -> usize
+    requires { ⌜ n ≤ length (now marks) ⌝ }
+    ensures { λ r. ⌜ r ≡ lowest (λ (s : ℕ). eqb (entry (now (marks .entry)) s) v) n ⌝ }
+{
+    let mut i: usize = 0;
+    while i < n {
+        if marks[i] == v {
+            return i + 1;
+        }
+        i += 1;
+    }
+    0
+}
+
+// One more, but never above two.
+fn one_more(m: u32) -> u32
+    ensures { λ r. ⌜ r ≡ min 2 (m + 1) ⌝ }
+{
+    if m < 2 { m + 1 } else { 2 }
+}
+
+// Counts the predecessors of each side, up to two. The marks are zero before.
+fn tally(
+    start_node: &[u32],
+    end_node: &[u32],
+    right_face: &[u32],
+    left_face: &[u32],
+    right_edge: &[u32],
+    left_edge: &[u32],
+    marks: &mut [u32],
+)
+    requires { ⌜ length (now «start_node») ≤ mostRows ⌝ }
+    requires { ⌜ lowestOf (edgeSideRefusal (edges (now «start_node») (now «end_node») (now «right_face») (now «left_face») (now «right_edge») (now «left_edge»))) (sideCount (edges (now «start_node») (now «end_node») (now «right_face») (now «left_face») (now «right_edge») (now «left_edge»))) ≡ fine ⌝ }
+    requires { ⌜ 2 * length (now «start_node») ≤ length (now marks) ⌝ }
+    requires { ⌜ now marks ≡ front zeros (2 * length (now «start_node»)) (now marks) ⌝ }
+    ensures { λ _. ⌜ now (marks .exit) ≡ front (count (after (edges (now («start_node» .entry)) (now («end_node» .entry)) (now («right_face» .entry)) (now («left_face» .entry)) (now («right_edge» .entry)) (now («left_edge» .entry)))) (2 * length (now («start_node» .entry)))) (2 * length (now («start_node» .entry))) (now (marks .entry)) ⌝ }
+{
+    let n = 2 * start_node.len();
+    let mut i: usize = 0;
+    while i < n {
+        let u = side_after(
+            start_node,
+            end_node,
+            right_face,
+            left_face,
+            right_edge,
+            left_edge,
+            i + 1,
+        );
+        let j = u - 1;
+        marks[j] = one_more(marks[j]);
+        i += 1;
+    }
+}
+
+// 26: the lowest side with more than one predecessor, or 0. The marks hold the counts after.
+pub(crate) fn doubled(
+    start_node: &[u32],
+    end_node: &[u32],
+    right_face: &[u32],
+    left_face: &[u32],
+    right_edge: &[u32],
+    left_edge: &[u32],
+    marks: &mut [u32],
+) -> usize
+    requires { ⌜ length (now «start_node») ≤ mostRows ⌝ }
+    requires { ⌜ lowestOf (edgeSideRefusal (edges (now «start_node») (now «end_node») (now «right_face») (now «left_face») (now «right_edge») (now «left_edge»))) (sideCount (edges (now «start_node») (now «end_node») (now «right_face») (now «left_face») (now «right_edge») (now «left_edge»))) ≡ fine ⌝ }
+    requires { ⌜ 2 * length (now «start_node») ≤ length (now marks) ⌝ }
+    ensures { λ r. ⌜ r ≡ firstDoubled (after (edges (now («start_node» .entry)) (now («end_node» .entry)) (now («right_face» .entry)) (now («left_face» .entry)) (now («right_edge» .entry)) (now («left_edge» .entry)))) (2 * length (now («start_node» .entry))) ⌝ }
+    ensures { λ r. ⌜ now (marks .exit) ≡ front (count (after (edges (now («start_node» .entry)) (now («end_node» .entry)) (now («right_face» .entry)) (now («left_face» .entry)) (now («right_edge» .entry)) (now («left_edge» .entry)))) (2 * length (now («start_node» .entry)))) (2 * length (now («start_node» .entry))) (now (marks .entry)) ⌝ }
+{
+    let n = 2 * start_node.len();
+    clear(marks, n);
+    tally(
+        start_node,
+        end_node,
+        right_face,
+        left_face,
+        right_edge,
+        left_edge,
+        marks,
+    );
+    find(marks, n, 2)
+}
+
+// Paints the sides of the walk from start with the row, until start returns; none where start is 0.
+fn paint(
+    start_node: &[u32],
+    end_node: &[u32],
+    right_face: &[u32],
+    left_face: &[u32],
+    right_edge: &[u32],
+    left_edge: &[u32],
+    start: usize,
+    row: u32,
+    marks: &mut [u32],
+)
+    requires { ⌜ length (now «start_node») ≤ mostRows ⌝ }
+    requires { ⌜ lowestOf (edgeSideRefusal (edges (now «start_node») (now «end_node») (now «right_face») (now «left_face») (now «right_edge») (now «left_edge»))) (sideCount (edges (now «start_node») (now «end_node») (now «right_face») (now «left_face») (now «right_edge») (now «left_edge»))) ≡ fine ⌝ }
+    requires { ⌜ firstDoubled (after (edges (now «start_node») (now «end_node») (now «right_face») (now «left_face») (now «right_edge») (now «left_edge»))) (2 * length (now «start_node»)) ≡ 0 ⌝ }
+    requires { ⌜ 2 * length (now «start_node») ≤ length (now marks) ⌝ }
+    requires { ⌜ start ≤ 2 * length (now «start_node») ⌝ }
+    ensures { λ _. ⌜ now (marks .exit) ≡ front (painted (after (edges (now («start_node» .entry)) (now («end_node» .entry)) (now («right_face» .entry)) (now («left_face» .entry)) (now («right_edge» .entry)) (now («left_edge» .entry)))) (now (marks .entry)) start row (2 * length (now («start_node» .entry)))) (2 * length (now («start_node» .entry))) (now (marks .entry)) ⌝ }
+{
+    if start == 0 {
+        return;
+    }
+    let n = 2 * start_node.len();
+    let mut s = start;
+    let mut k: usize = 0;
+    while k < n {
+        s = side_after(
+            start_node,
+            end_node,
+            right_face,
+            left_face,
+            right_edge,
+            left_edge,
+            s,
+        );
+        let j = s - 1;
+        marks[j] = row;
+        k += 1;
+        if s == start {
+            return;
+        }
+    }
+}
+
+// 30: paints each ring's cycle with its row, and stops at the lowest ring row whose start is painted already; 0 where none is.
+fn own(
+    start_node: &[u32],
+    end_node: &[u32],
+    right_face: &[u32],
+    left_face: &[u32],
+    right_edge: &[u32],
+    left_edge: &[u32],
+    fac_id: &[u32],
+    start_edge: &[u32],
+    marks: &mut [u32],
+) -> usize
+    requires { ⌜ (length (now «start_node») ≤ mostRows) × (length (now «fac_id») ≤ mostRows) ⌝ }
+    requires { ⌜ lowestOf (edgeSideRefusal (edges (now «start_node») (now «end_node») (now «right_face») (now «left_face») (now «right_edge») (now «left_edge»))) (sideCount (edges (now «start_node») (now «end_node») (now «right_face») (now «left_face») (now «right_edge») (now «left_edge»))) ≡ fine ⌝ }
+    requires { ⌜ firstDoubled (after (edges (now «start_node») (now «end_node») (now «right_face») (now «left_face») (now «right_edge») (now «left_edge»))) (2 * length (now «start_node»)) ≡ 0 ⌝ }
+    requires { ⌜ 2 * length (now «start_node») ≤ length (now marks) ⌝ }
+    requires { ⌜ lowest (lacksStart (edges (now «start_node») (now «end_node») (now «right_face») (now «left_face») (now «right_edge») (now «left_edge»)) (now «fac_id») (now «start_edge»)) (length (now «fac_id»)) ≡ 0 ⌝ }
+    ensures { λ r. ⌜ r ≡ firstTaken (after (edges (now («start_node» .entry)) (now («end_node» .entry)) (now («right_face» .entry)) (now («left_face» .entry)) (now («right_edge» .entry)) (now («left_edge» .entry)))) (2 * length (now («start_node» .entry))) (startOf (edges (now («start_node» .entry)) (now («end_node» .entry)) (now («right_face» .entry)) (now («left_face» .entry)) (now («right_edge» .entry)) (now («left_edge» .entry))) (now («fac_id» .entry)) (now («start_edge» .entry))) (length (now («fac_id» .entry))) ⌝ }
+    ensures { λ r. ⌜ now (marks .exit) ≡ ownersPainted (edges (now («start_node» .entry)) (now («end_node» .entry)) (now («right_face» .entry)) (now («left_face» .entry)) (now («right_edge» .entry)) (now («left_edge» .entry))) (now («fac_id» .entry)) (now («start_edge» .entry)) (now (marks .entry)) ⌝ }
+{
+    let edges = start_node.len();
+    clear(marks, 2 * edges);
+    let mut r: usize = 0;
+    while r < fac_id.len() {
+        let e = side::row(start_edge, r + 1);
+        let start = starts::side_with(edges, right_face, left_face, fac_id[r], e);
+        if side::row(marks, start) != 0 {
+            return r + 1;
+        }
+        r += 1;
+        paint(
+            start_node,
+            end_node,
+            right_face,
+            left_face,
+            right_edge,
+            left_edge,
+            start,
+            r as u32,
+            marks,
+        );
+    }
+    0
+}
+
+// 30 and 31, in order: no cycle named by two rings, and every side on a ring's cycle.
+pub(crate) fn judge_owners(
+    start_node: &[u32],
+    end_node: &[u32],
+    right_face: &[u32],
+    left_face: &[u32],
+    right_edge: &[u32],
+    left_edge: &[u32],
+    fac_id: &[u32],
+    start_edge: &[u32],
+    marks: &mut [u32],
+) -> Refusal
+    requires { ⌜ (length (now «start_node») ≤ mostRows) × (length (now «fac_id») ≤ mostRows) ⌝ }
+    requires { ⌜ lowestOf (edgeSideRefusal (edges (now «start_node») (now «end_node») (now «right_face») (now «left_face») (now «right_edge») (now «left_edge»))) (sideCount (edges (now «start_node») (now «end_node») (now «right_face») (now «left_face») (now «right_edge») (now «left_edge»))) ≡ fine ⌝ }
+    requires { ⌜ firstDoubled (after (edges (now «start_node») (now «end_node») (now «right_face») (now «left_face») (now «right_edge») (now «left_edge»))) (2 * length (now «start_node»)) ≡ 0 ⌝ }
+    requires { ⌜ 2 * length (now «start_node») ≤ length (now marks) ⌝ }
+    requires { ⌜ lowest (lacksStart (edges (now «start_node») (now «end_node») (now «right_face») (now «left_face») (now «right_edge») (now «left_edge»)) (now «fac_id») (now «start_edge»)) (length (now «fac_id»)) ≡ 0 ⌝ }
+    ensures { λ r. ⌜ r ≡ firstOf (ownerTests (edges (now («start_node» .entry)) (now («end_node» .entry)) (now («right_face» .entry)) (now («left_face» .entry)) (now («right_edge» .entry)) (now («left_edge» .entry))) (now («fac_id» .entry)) (now («start_edge» .entry))) ⌝ }
+    ensures { λ r. ⌜ now (marks .exit) ≡ ownersPainted (edges (now («start_node» .entry)) (now («end_node» .entry)) (now («right_face» .entry)) (now («left_face» .entry)) (now («right_edge» .entry)) (now («left_edge» .entry))) (now («fac_id» .entry)) (now («start_edge» .entry)) (now (marks .entry)) ⌝ }
+{
+    let a = refusal::refuse_at(
+        30,
+        own(
+            start_node,
+            end_node,
+            right_face,
+            left_face,
+            right_edge,
+            left_edge,
+            fac_id,
+            start_edge,
+            marks,
+        ),
+    );
+    if a.number != 0 {
+        return a;
+    }
+    refusal::refuse_at(31, find(marks, 2 * start_node.len(), 0))
+}
