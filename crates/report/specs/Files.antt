@@ -42,8 +42,11 @@ tooLarge z =
 abbrev pub tripletColumn : Layout → ℕ → Bool
 tripletColumn l k = isTriplet (columnAt l k .kind)
 
+unfoldable pub hasTriplet : Layout → Bool
+hasTriplet l = ltb 0 (lowest (tripletColumn l) (columnsOf l))
+
 unfoldable pub showsTriplet : List ℕ → Bool
-showsTriplet cnd = ltb 0 (lowest (tripletColumn (headerOf cnd .layout)) (columnsOf (headerOf cnd .layout)))
+showsTriplet cnd = hasTriplet (headerOf cnd .layout)
 
 -- the file of the table itself
 abbrev pub ofTable : TableName → FileName

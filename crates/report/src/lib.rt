@@ -1,16 +1,18 @@
 // What the program writes: which file a refusal speaks of, and the bytes of each line.
+use header::Layout;
 use load::Counts;
 use load::Finding;
 use load::TableName;
 use refusal::Refusal;
 ghost use mathlib.Core.Path.{_≡_};
 ghost use mathlib.Core.List.{[], _∷_};
-ghost use Prim.Native.Nat.{_+_, _≤_, _<_};
+ghost use Prim.Native.Nat.{min, _+_, _≤_, _<_};
 ghost use lib.ListN.{length};
 ghost use lib.Seq.{sets};
+ghost use Rattle.header.specs.Judge.{mostColumns};
 ghost use Rattle.load.specs.declared.TableName.the-variants.{Cnd};
 ghost use Rattle.report.specs.Text.{digit, mostDigits, decimal};
-ghost use Rattle.report.specs.Files.{tooLarge, ofTable, ofIndex, fileOfFinding, ringRow, fileOfVerdict};
+ghost use Rattle.report.specs.Files.{tooLarge, hasTriplet, showsTriplet, ofTable, ofIndex, fileOfFinding, ringRow, fileOfVerdict};
 ghost use Rattle.report.specs.Lines.{fileText, refuseLine, acceptLine, ringLine, stepsLine, withLine};
 
 // "each at most 65,536 bytes, with at most 1,000 rows per table"
@@ -81,6 +83,42 @@ pub fn too_large(sizes: Sizes) -> TooLarge
     TooLarge::Nothing
 }
 
+// The columns that a layout has, whoever made it.
+fn column_count(columns: usize) -> usize
+    ensures { λ r. ⌜ r ≡ min columns mostColumns ⌝ }
+{
+    if header::MOST_COLUMNS < columns {
+        return header::MOST_COLUMNS;
+    }
+    columns
+}
+
+// Whether one of the columns is a triplet.
+fn has_triplet(layout: Layout) -> bool
+    ensures { λ r. ⌜ r ≡ hasTriplet layout ⌝ }
+{
+    let n = column_count(layout.columns);
+    let mut k = 0;
+    while k < n {
+        let column = layout.cols[k];
+        let kind = column.kind;
+        if kind.is_triplet() {
+            return true;
+        }
+        k += 1;
+    }
+    false
+}
+
+// "cnx if K occurs": whether the header of cnd is accepted and shows K.
+pub fn shows_triplet(cnd: &[u8]) -> bool
+    ensures { λ r. ⌜ r ≡ showsTriplet (now (cnd .entry)) ⌝ }
+{
+    let read = header::read_header(cnd);
+    let layout = read.layout;
+    has_triplet(layout)
+}
+
 // The file of the table itself.
 fn of_table(table: TableName) -> FileName
     ensures { λ r. ⌜ r ≡ ofTable table ⌝ }
@@ -136,7 +174,7 @@ fn is_ring_row(fac_id: &[u32], faces: usize, place: usize) -> bool
     if fac_id.len() < place {
         return false;
     }
-    let face = fac_id[place - 1] as usize;
+    let face = side::row(fac_id, place) as usize;
     if face == 0 {
         return true;
     }
