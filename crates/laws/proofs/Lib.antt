@@ -9,7 +9,8 @@ pub mod LanguageLaws
 pub mod SeparatorLaws
 pub mod LentLaws
 pub mod ForemostLaws
-pub mod PlaceLaws
 pub mod EntryLaws
+pub mod PieceLaws
+pub mod PlaceLaws
 pub mod LeastLaws
 pub mod PartitionLaws

@@ -4,6 +4,7 @@ use mathlib.Core.Bool.{Bool, true, false, cond}
 use mathlib.Core.List.{List, [], _∷_}
 use Prim.Native.Nat.{ℕ, zero, suc}
 use lib.Dec.{eqb, ltb}
+use lib.ListN.{length}
 use Rattle.laws.specs.Orbit.{entry}
 use Rattle.refusal.specs.declared.Refusal.{Refusal}
 use Rattle.field.specs.Fields.{isTriplet}
@@ -41,8 +42,11 @@ tooLarge z =
 abbrev pub tripletColumn : Layout → ℕ → Bool
 tripletColumn l k = isTriplet (columnAt l k .kind)
 
+unfoldable pub hasTriplet : Layout → Bool
+hasTriplet l = ltb 0 (lowest (tripletColumn l) (columnsOf l))
+
 unfoldable pub showsTriplet : List ℕ → Bool
-showsTriplet cnd = ltb 0 (lowest (tripletColumn (headerOf cnd .layout)) (columnsOf (headerOf cnd .layout)))
+showsTriplet cnd = hasTriplet (headerOf cnd .layout)
 
 -- the file of the table itself
 abbrev pub ofTable : TableName → FileName
@@ -62,9 +66,10 @@ ofIndex cnxRead table.Cnd = cond cnxRead Cnx Cnd
 unfoldable pub fileOfFinding : Bool → Finding → FileName
 fileOfFinding cnxRead q = cond (eqb (q .refusal .number) 8) (ofIndex cnxRead (q .table)) (ofTable (q .table))
 
--- "rng or fac for 28 by its place": the ring row's face is out of range, or else it is a face row
+-- "rng or fac for 28 by its place": a ring row whose face is out of range, or else it is a face row. (Ring rows are tested before
+-- face rows, so a place past the last ring row, or at a ring row whose face is in range, is a face row.)
 abbrev pub ringRow : List ℕ → ℕ → ℕ → Bool
-ringRow facId faces p = cond (eqb p 0) false (outside faces (entry facId p))
+ringRow facId faces p = cond (outside (length facId) p) false (outside faces (entry facId p))
 
 -- the file of what the check refused, in a tile with these ring faces and so many faces
 unfoldable pub fileOfVerdict : List ℕ → ℕ → Refusal → FileName

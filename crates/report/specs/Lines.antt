@@ -59,6 +59,10 @@ ringLine row face steps =
 unfoldable pub stepsLine : ℕ → List ℕ
 stepsLine n = stepsText ++ (decimal n ++ (lineEnd ∷ []))
 
+-- the bytes of the buffer that is lent for a line; every line fits, whatever its numbers
+abbrev pub lineRoom : ℕ
+lineRoom = 128
+
 -- a lent buffer with a line at its front, the rest as it was
 abbrev pub withLine : List ℕ → List ℕ → List ℕ
 withLine line d = line ++ drop (length line) d

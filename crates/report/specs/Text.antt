@@ -12,9 +12,12 @@ abbrev pub spelled : ℕ → ℕ → List ℕ
 spelled zero n = []
 spelled (suc most) n = cond (ltb n 10) (digit n ∷ []) (spelled most (n / 10) ++ (digit (n % 10) ∷ []))
 
--- every number below 2^64 has at most 20
+-- every number below 2^64 has at most so many
+abbrev pub mostDigits : ℕ
+mostDigits = 20
+
 unfoldable pub decimal : ℕ → List ℕ
-decimal n = spelled 20 n
+decimal n = spelled mostDigits n
 
 abbrev pub space : ℕ
 space = 32

@@ -1,0 +1,6 @@
+pub mod DecimalLaws
+pub mod NumberWritten
+pub mod LineFits
+pub mod DecimalSays
+pub mod RingOrFace
+pub mod Examples

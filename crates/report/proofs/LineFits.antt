@@ -1,0 +1,49 @@
+-- Every line fits the buffer that is lent for it, whatever its numbers; and a line written piece by piece is the whole line.
+-- Assumes nothing.
+use mathlib.Core.Path.{_≡_, refl, ap, _∙_}
+use mathlib.Core.List.{List, [], _∷_, _++_}
+use Prim.Native.Nat.{ℕ, _+_, _≤_}
+use native.Mathlib.Omega.{arith}
+use lib.ListN.{length, length-append}
+use Rattle.laws.specs.Pieces.{Begun}
+use Rattle.laws.proofs.PieceLaws.{begun-front}
+use Rattle.refusal.specs.declared.Refusal.{Refusal}
+use Rattle.load.specs.declared.Counts.{Counts}
+use Rattle.report.specs.declared.FileName.{FileName}
+use Rattle.report.specs.declared.FileName.the-variants.{Edg, Edx, Fac, Rng, Cnd, Cnx}
+use Rattle.report.specs.Text.{decimal}
+use Rattle.report.specs.Lines.{fileText, refuseLine, acceptLine, ringLine, stepsLine, lineRoom, withLine}
+use Rattle.report.proofs.DecimalLaws.{decimal-short}
+
+pub file-text : (f : FileName) → length (fileText f) ≡ 3
+file-text Edg = refl
+file-text Edx = refl
+file-text Fac = refl
+file-text Rng = refl
+file-text Cnd = refl
+file-text Cnx = refl
+
+pub refuse-fits : (f : FileName) (q : Refusal) → length (refuseLine f q) ≤ lineRoom
+unfolding refuseLine
+refuse-fits f q = simp (length-append, file-text f) (omega (arith, decimal-short (q .number), decimal-short (q .place)))
+
+pub accept-fits : (c : Counts) → length (acceptLine c) ≤ lineRoom
+unfolding acceptLine
+accept-fits c =
+    simp length-append
+    (omega (arith, decimal-short (c .nodes), decimal-short (c .edges), decimal-short (c .faces), decimal-short (c .rings)))
+
+pub ring-fits : (row face steps : ℕ) → length (ringLine row face steps) ≤ lineRoom
+unfolding ringLine
+ring-fits row face steps = simp length-append (omega (arith, decimal-short row, decimal-short face, decimal-short steps))
+
+pub steps-fits : (n : ℕ) → length (stepsLine n) ≤ lineRoom
+unfolding stepsLine
+steps-fits n = simp length-append (omega (arith, decimal-short n))
+
+-- the pieces are the line's, and the buffer has room for it
+pub line-written : {d text e : List ℕ} {at : ℕ} (line : List ℕ) → Begun d text at e → text ≡ line → length line ≤ lineRoom → length d ≡ lineRoom
+    → (at ≡ length line) × (e ≡ withLine line d)
+line-written {d} {text} {e} {at} line b q h l =
+    let w : Begun d line at e = rw q at b in
+    (w .place, begun-front w (omega arith))
