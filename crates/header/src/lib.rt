@@ -669,7 +669,7 @@ fn lay_out(head: &[u8], facts: Facts) -> Layout
 }
 
 // What stands in the place of a layout where the header is refused.
-fn blank_layout() -> Layout
+pub fn blank_layout() -> Layout
     ensures { λ r. ⌜ r ≡ blankLayout ⌝ }
 {
     let blank = blank_column();

@@ -92,10 +92,17 @@ tableRefusal file index most = firstOf (headerRefusal file ∷ openRefusal (head
 abbrev pub noTable : Table
 noTable = record { layout = blankLayout; rows = 0 }
 
+-- a table whose rows this layout describes
+abbrev pub tableFrom : Layout → List ℕ → ℕ → Table
+tableFrom l index size = record { layout = l; rows = rowsSaid l index size }
+
 abbrev pub tableOf : List ℕ → List ℕ → Table
-tableOf file index = record { layout = headerOf file .layout; rows = rowsSaid (headerOf file .layout) index (length file) }
+tableOf file index = tableFrom (headerOf file .layout) index (length file)
+
+-- the answer, with the table where nothing is refused
+abbrev pub openedAs : Refusal → Table → Opened
+openedAs q t = record { answer = answered q; table = cond (eqb (q .number) 0) t noTable }
 
 -- THE OPENING
 unfoldable pub openedOf : List ℕ → List ℕ → ℕ → Opened
-openedOf file index most =
-    record { answer = answered (tableRefusal file index most); table = cond (eqb (tableRefusal file index most .number) 0) (tableOf file index) noTable }
+openedOf file index most = openedAs (tableRefusal file index most) (tableOf file index)

@@ -1,4 +1,6 @@
 // Tables: opened with their lent index, rows found and judged, values handed out.
+pub mod opening;
+
 ghost use mathlib.Core.Path.{_≡_};
 ghost use mathlib.Core.Bool.{false};
 ghost use Prim.Native.Nat.{min, _+_, _-_, _*_, _≤_, _<_};
@@ -25,15 +27,11 @@ use triplet::Triplet;
 // "15: over 1,000,000 rows"
 pub const MOST_ROWS: usize = 1000000;
 
-// Refusals: no whole rows, a broken index rule, a wrong id, a row too short or not used up, a bad triplet, no such row or column,
-// too many rows.
-const WRONG_BODY: u32 = 7;
-const WRONG_INDEX: u32 = 8;
+// Refusals: a wrong id, a row too short or not used up, a bad triplet, no such row or column.
 const WRONG_ID: u32 = 9;
 const WRONG_ROW: u32 = 10;
 const BAD_TRIPLET: u32 = 11;
 const NO_SUCH: u32 = 13;
-const TOO_MANY: u32 = 15;
 
 // The slots of the id column and of the column asked for, in a walk that looks for both.
 const ID_SLOT: u8 = 1;
