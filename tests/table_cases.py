@@ -302,7 +302,10 @@ add("entries out of order", indexed(VARIES, five)[0], index=(lambda i: i[:8] + i
 add("a sum of offset and length past 2^32", *indexed(VARIES, two, entries={1: (0, -len(two[0]) - 4)}), says=refused(8, 2))
 add("a sum that comes round to the next offset", *indexed(VARIES, two, entries={1: (0, 2**32 - 1 - len(two[0])), 2: (-len(two[0]) - 1, 0)}), says=refused(8, 2))
 file, index = indexed(VARIES, [worded(1, b"a"), worded(2, b"b")])
-add("a last length that comes round to the file's end", file, index[:-4] + struct.pack("<I", 2**32 - 1), says=refused(8, 2))
+beyond = len(VARIES) + 4 + 2**31
+round_about = struct.pack("<4I", len(VARIES) + 4, 2**31, beyond, (len(file) - beyond) % 2**32)
+add("a last end past 2^32 that comes round to the file's end", file, index[:8] + round_about, says=refused(8, 2))
+add("a last length of 2^32 - 1", file, index[:-4] + struct.pack("<I", 2**32 - 1), says=refused(8, 2))
 add("the first offset 0 and a sum past 2^32", file, index[:8] + struct.pack("<II", 0, 2**32 - 1) + index[16:], says=refused(8, 1))
 add("the file a byte longer than the last row", file + b"\0", index, says=refused(8, 2))
 add("the file a byte shorter than the last row", file[:-1], index, says=refused(8, 2))
