@@ -25,7 +25,7 @@ use denote.Lend.{lends-ref, ref-back}
 use denote.Struct.Laws as LL
 use denote.Struct.Steps.{spelt}
 use Rattle.reader.specs.declared.Reader.{Reader}
-use Rattle.reader.proofs.Held.{mach}
+use Rattle.reader.proofs.Held.{value-of}
 use Rattle.reader.proofs.Reader as T
 use Rattle.reader.proofs.Reader.Laws as T′
 
@@ -58,11 +58,11 @@ module _ {M : Type 1} (𝓤 : URA M) (H : Heap 𝓤) (A : Atoms 𝓤) (W : Given
       qed W (‵ (R .own h (v ∷ [])) ∷ ‵ (fat fullShare (T′.mir erased) l 0 v) ∷ []) ∵ move ! (1 ∷ []) $ use1 W (‵ (cellAt fullShare (R .mir) (v ∷ []) l 0)) (W .laws .at-raw fullShare (T′.mir erased) l 0 v) $ fjoin ! $
       fpack ! (List Val) (λ vs. fsep (cellAt fullShare (R .mir) vs l 0) (R .own h vs)) (v ∷ []) $ done !
 
-  pub lies-out : (h : Reader) → ent 𝓤 (sem 𝓤 H A (Lies h)) (sep 𝓤 (sem 𝓤 H A (fat fullShare (T′.mir erased) l 0 (mach h))) (sem 𝓤 H A (R .own h (mach h ∷ []))))
+  pub lies-out : (h : Reader) → ent 𝓤 (sem 𝓤 H A (Lies h)) (sep 𝓤 (sem 𝓤 H A (fat fullShare (T′.mir erased) l 0 (value-of h))) (sem 𝓤 H A (R .own h (value-of h ∷ []))))
   unfolding partOf
   lies-out h =
       qed W (‵ (Lies h) ∷ []) ∵ fpick ! (λ vs. fsplit ! $ spelt ! R (Is R) (shows 𝓤 H A R) (LL.vals (T.the-type α) (T′.the-laws α)) (LL.tells (T.the-type α) (T′.the-laws α)) fullShare h vs l 0 $
-      use1 W (‵ (fat fullShare (T′.mir erased) l 0 (mach h))) (W .laws .raw-at fullShare (T′.mir erased) l 0 (mach h)) $ done !)
+      use1 W (‵ (fat fullShare (T′.mir erased) l 0 (value-of h))) (W .laws .raw-at fullShare (T′.mir erased) l 0 (value-of h)) $ done !)
 
   pub lends-local : (h : Reader) → ent 𝓤 (sep 𝓤 (sem 𝓤 H A (Lies h)) (sep 𝓤 (A .lft κ q) (emp 𝓤))) (H .⇛ (ex 𝓤 (λ (ν : ℕ). ex 𝓤 (λ (γ : GName). mean 𝓤 H A (Lent h ν γ)))))
   lends-local h =

@@ -28,6 +28,15 @@ fn place_after(step: Step, place: usize) -> usize
     }
 }
 
+// The whole of a step on the slice and the number: covered, so that the reader's own step is thin.
+fn step_at(file: &[u8], place: usize) -> Moved
+    ensures { λ r. ⌜ r ≡ movedFrom (now (file .entry)) place ⌝ }
+{
+    let step = header::column_step(file, place);
+    let at = place_after(step, place);
+    Moved { step: step, at: at }
+}
+
 // A reader at a place that the caller names.
 pub fn open_at<'a>(file: &'a [u8], place: usize) -> Reader<'a>
     ensures { λ r. ⌜ r ≡ readerAt (file .entry) place ⌝ }
@@ -48,10 +57,9 @@ impl<'a> Reader<'a> {
     pub fn step(&mut self) -> Step
         ensures { λ s. ⌜ (s ≡ gives (now (self .entry))) × (now (self .exit) ≡ moved (now (self .entry))) ⌝ }
     {
-        let at = self.at;
-        let found = header::column_step(self.file, at);
-        self.at = place_after(found, at);
-        found
+        let moved = step_at(self.file, self.at);
+        self.at = moved.at;
+        moved.step
     }
 }
 

@@ -29,7 +29,7 @@ use denote.Triple.Entry.{alive}
 use denote.Triple.Spec.{tripleOf}
 use denote.Triple.Table.{entered}
 use Rattle.reader.specs.Moves.{readerAt}
-use Rattle.reader.proofs.Held.{B, mach, fat-of, Own, OwnSlice, made, slice-twice, number, number-stays, entry, post, leaves, of-slice-number}
+use Rattle.reader.proofs.Held.{reader-type, value-of, slice-value, Own, OwnSlice, made, slice-twice, number, number-stays, entry, post, leaves, of-slice-number}
 use Rattle.reader.proofs.open_at.Key.{name as #reader·open-at}
 use Rattle.reader.proofs.open_at as open-at
 use Rattle.reader.proofs.open_at.Statement as stated
@@ -42,10 +42,10 @@ module _ {M : Type 1} (𝓤 : URA M) (H : Heap 𝓤) (A : Atoms 𝓤) (W : Given
   abbrev Tok : SProp 𝓤
   Tok = alive 𝓤 H A open-at.signature (κ, tt) (q, tt)
 
-  walk : Typed (ShrSlice (named 0) κ u8 .mir) (fat-of s ∷ []) → n < 2 ^ 64
-      → ent 𝓤 (entry 𝓤 H A W number (yes, tt) number-stays (plain B) (open-at.clauses 𝓤 H A mem run) κ q s (n, tt) (vint w64 n ∷ [], tt)) (WpFn 𝓤 H C Λ code.function (fat-of s ∷ vint w64 n ∷ []) (post 𝓤 H A W number (yes, tt) number-stays (plain B) (open-at.clauses 𝓤 H A mem run) κ q s (n, tt) (vint w64 n ∷ [], tt) tt))
+  walk : Typed (ShrSlice (named 0) κ u8 .mir) (slice-value s ∷ []) → n < 2 ^ 64
+      → ent 𝓤 (entry 𝓤 H A W number (yes, tt) number-stays (plain reader-type) (open-at.clauses 𝓤 H A mem run) κ q s (n, tt) (vint w64 n ∷ [], tt)) (WpFn 𝓤 H C Λ code.function (slice-value s ∷ vint w64 n ∷ []) (post 𝓤 H A W number (yes, tt) number-stays (plain reader-type) (open-at.clauses 𝓤 H A mem run) κ q s (n, tt) (vint w64 n ∷ [], tt) tt))
   walk p ok =
-      qed W (raw Tok ∷ ‵ (owns (ShrSlice (named 0) κ u8 ∷ usize ∷ []) (s, (n, tt)) (fat-of s ∷ [], (vint w64 n ∷ [], tt))) ∷ []) ∵ enter ! C Λ code.function (fat-of s ∷ vint w64 n ∷ []) _ $
+      qed W (raw Tok ∷ ‵ (owns (ShrSlice (named 0) κ u8 ∷ usize ∷ []) (s, (n, tt)) (slice-value s ∷ [], (vint w64 n ∷ [], tt))) ∷ []) ∵ enter ! C Λ code.function (slice-value s ∷ vint w64 n ∷ []) _ $
       alloc1 ! (λ l₀. alloc1 ! (λ l₁. alloc1 ! (λ l₂. alloc0 ! $ params1 ! $ pass1 ! (init ! 2 refl (p .0)) $ pass1 ! (init ! 0 refl (tt, record { fits = ok })) $ pass0 ! $
       assigns ! (agg ! (and-then ! (load ! (from ! (stop !)) (look ! 2 refl)) (and-then ! (load ! (from ! (stop !)) (look ! 0 refl)) (no-more !)))) (from ! (stop !)) (init ! 4 refl (tt, (p .0 .1, (record { fits = ok }, tt)))) $
       returns ! (look ! 4 refl) $ forget ! 0 refl $ forget ! 2 refl $ forget ! 4 refl $ move ! (4 ∷ 5 ∷ []) $ free1 ! $ move ! (2 ∷ 3 ∷ []) $ free1 ! $ free1 ! $ free0 ! $
@@ -53,7 +53,7 @@ module _ {M : Type 1} (𝓤 : URA M) (H : Heap 𝓤) (A : Atoms 𝓤) (W : Given
       move ! (1 ∷ []) $ fsplit ! $ use1 W (‵ (OwnSlice κ s) ⊛ ‵ (OwnSlice κ s)) (slice-twice 𝓤 H A W κ s) $ split ! $ use1 W (‵ (Own 𝓤 H A W α (readerAt s n))) (made 𝓤 H A W α s n ok) $
       -- [what the result owns; what s owns; the number's; the token]
       move ! (0 ∷ 3 ∷ 1 ∷ 2 ∷ []) $
-      by ! (leaves 𝓤 H A W number (yes, tt) number-stays (plain B) (open-at.clauses 𝓤 H A mem run) κ q s (n, tt) (vint w64 n ∷ [], tt) tt (mach (readerAt s n)) (readerAt s n) (tt, tt) (tt, tt) (readerAt s n ≡ readerAt s n) refl (id⊢ 𝓤 _)))))
+      by ! (leaves 𝓤 H A W number (yes, tt) number-stays (plain reader-type) (open-at.clauses 𝓤 H A mem run) κ q s (n, tt) (vint w64 n ∷ [], tt) tt (value-of (readerAt s n)) (readerAt s n) (tt, tt) (tt, tt) (readerAt s n ≡ readerAt s n) refl (id⊢ 𝓤 _)))))
 
 pub open-at-spec : {M : Type 1} → stated.statement M
 unfolding code.routine tablesOf
@@ -61,5 +61,5 @@ open-at-spec 𝓤 H 𝓜 𝓖 𝓡 =
     let 𝓣 : Tables 𝓤 H = tablesOf 𝓤 H 𝓜 (tables 𝓤 H 𝓜 𝓡 code.env) in
     entered 𝓤 H (tripleOf 𝓤 H (𝓖 .A) open-at.signature (open-at.spec 𝓤 H (𝓖 .A) (𝓜 .mem) (𝓡 .run)))
     (tables 𝓤 H 𝓜 𝓡 code.env .C) (tables 𝓤 H 𝓜 𝓡 code.env .Λ) #reader·open-at code.function (code.unfolded 𝓤 H 𝓜 𝓡)
-    (of-slice-number 𝓤 H (𝓖 .A) (givenOf 𝓤 H 𝓜 𝓖) (plain B) (open-at.clauses 𝓤 H (𝓖 .A) (𝓜 .mem) (𝓡 .run)) code.function 𝓣
+    (of-slice-number 𝓤 H (𝓖 .A) (givenOf 𝓤 H 𝓜 𝓖) (plain reader-type) (open-at.clauses 𝓤 H (𝓖 .A) (𝓜 .mem) (𝓡 .run)) code.function 𝓣
     (λ κ q s n g. walk 𝓤 H (𝓖 .A) (givenOf 𝓤 H 𝓜 𝓖) (𝓜 .mem) (𝓡 .run) (𝓣 .C) (𝓣 .Λ) κ q s n))

@@ -40,7 +40,7 @@ use Rattle.reader.specs.declared.Reader.{Reader}
 use Rattle.reader.specs.declared.Moved.{Moved}
 use Rattle.reader.specs.Moves.{readerAt, gives, moved, movedFrom}
 use Rattle.reader.proofs.Calls.{Of, answers, answers-last, both-hold}
-use Rattle.reader.proofs.Held.{answer-typed, B, mach, fat-of, typed, OwnSlice, gives-up, lends-number, number, number-stays, entry, post, leaves, of-slice-number}
+use Rattle.reader.proofs.Held.{answer-typed, reader-type, value-of, slice-value, typed, OwnSlice, gives-up, lends-number, number, number-stays, entry, post, leaves, of-slice-number}
 use Rattle.reader.proofs.Lent.{Lies, ref, Toks, Lent, lies-in, lies-out, lends-local, local-back}
 use Rattle.reader.proofs.Reader as T
 use Rattle.reader.proofs.Reader.Laws as T′
@@ -79,7 +79,7 @@ module _ {M : Type 1} (𝓤 : URA M) (H : Heap 𝓤) (A : Atoms 𝓤) (W : Given
   Tok = alive 𝓤 H A step-from.signature (κ, tt) (q, tt)
 
   abbrev to-open : Of 𝓤 H A open-at.ended (open-at.clauses 𝓤 H A mem run) .Ghost
-  to-open = (((κ, tt), (q, tt), tt, (s, (n, tt)), (fat-of s ∷ [], (vint w64 n ∷ [], tt))), tt)
+  to-open = (((κ, tt), (q, tt), tt, (s, (n, tt)), (slice-value s ∷ [], (vint w64 n ∷ [], tt))), tt)
 
   -- what `step` is passed: the reader h at the local l, lent for ν ∷ κ under the name γ
   abbrev to-step : ℕ → Reader → ℕ → GName → Of 𝓤 H A step.ended (step.clauses 𝓤 H A mem run) .Ghost
@@ -96,13 +96,13 @@ module _ {M : Type 1} (𝓤 : URA M) (H : Heap 𝓤) (A : Atoms 𝓤) (W : Given
   abbrev whole-of : Val → Reader → Val
   whole-of w h = vstruct (vcons w (vcons (vint w64 (h .at)) vnil))
 
-  typed-local : (r : Reader) (u : Val) → Is (B (κ, tt)) r (u ∷ []) → Typed (T.the-row αᵉ .mir) (u ∷ [])
+  typed-local : (r : Reader) (u : Val) → Is (reader-type (κ, tt)) r (u ∷ []) → Typed (T.the-row αᵉ .mir) (u ∷ [])
   typed-local r u is = LL.lawful (T.the-type αᵉ) (T′.the-laws αᵉ) 𝓤 H A W .typed r _ is
 
-  walk : Typed (ShrSlice (named 0) κ u8 .mir) (fat-of s ∷ []) → n < 2 ^ 64
-      → ent 𝓤 (entry 𝓤 H A W number (yes, tt) number-stays Answer (step-from.clauses 𝓤 H A mem run) κ q s (n, tt) (vint w64 n ∷ [], tt)) (WpFn 𝓤 H C Λ code.function (fat-of s ∷ vint w64 n ∷ []) (post 𝓤 H A W number (yes, tt) number-stays Answer (step-from.clauses 𝓤 H A mem run) κ q s (n, tt) (vint w64 n ∷ [], tt) tt))
+  walk : Typed (ShrSlice (named 0) κ u8 .mir) (slice-value s ∷ []) → n < 2 ^ 64
+      → ent 𝓤 (entry 𝓤 H A W number (yes, tt) number-stays Answer (step-from.clauses 𝓤 H A mem run) κ q s (n, tt) (vint w64 n ∷ [], tt)) (WpFn 𝓤 H C Λ code.function (slice-value s ∷ vint w64 n ∷ []) (post 𝓤 H A W number (yes, tt) number-stays Answer (step-from.clauses 𝓤 H A mem run) κ q s (n, tt) (vint w64 n ∷ [], tt) tt))
   walk p ok =
-      qed W (raw Tok ∷ ‵ (owns (ShrSlice (named 0) κ u8 ∷ usize ∷ []) (s, (n, tt)) (fat-of s ∷ [], (vint w64 n ∷ [], tt))) ∷ []) ∵ enter ! C Λ code.function (fat-of s ∷ vint w64 n ∷ []) _ $
+      qed W (raw Tok ∷ ‵ (owns (ShrSlice (named 0) κ u8 ∷ usize ∷ []) (s, (n, tt)) (slice-value s ∷ [], (vint w64 n ∷ [], tt))) ∷ []) ∵ enter ! C Λ code.function (slice-value s ∷ vint w64 n ∷ []) _ $
       alloc1 ! (λ l₀. alloc1 ! (λ l₁. alloc1 ! (λ l₂. alloc1 ! (λ l₃. alloc1 ! (λ l₄. alloc1 ! (λ l₅. alloc1 ! (λ l₆. alloc1 ! (λ l₇. alloc0 ! $ params1 ! $ pass1 ! (init ! 12 refl (p .0)) $ pass1 ! (init ! 10 refl (tt, record { fits = ok })) $ pass0 ! $
       move ! (17 ∷ 16 ∷ []) $ fsplit ! $ move ! (0 ∷ 2 ∷ []) $ use2 W (raw (Of 𝓤 H A open-at.ended (open-at.clauses 𝓤 H A mem run) .pre to-open) ⊛ ‵ (OwnSlice κ s)) (lends-number 𝓤 H A W κ s n Tok ok) $ split ! $
       -- [what the callee asks; what s owns; the number's; _7; …; _6; …; _5; …; _4; …; _3; …; _2; …; _1; …; _0; …]
@@ -121,8 +121,8 @@ module _ {M : Type 1} (𝓤 : URA M) (H : Heap 𝓤) (A : Atoms 𝓤) (W : Given
       land ! (from ! (stop !)) (init ! 13 refl (answer-typed 𝓤 H A W t w is₁)) $
       move ! (2 ∷ []) $ fsplit ! $ move ! (4 ∷ 0 ∷ 3 ∷ 5 ∷ []) $ join ! $ use3 W (later (‵ (Lies 𝓤 H A W κ q l₃ (ws .0)) ⊛ raw Tok)) (local-back 𝓤 H A W κ q l₃ (ws .0) ν γ) $ await ! tt $ split ! $
       -- the reader has come back, and its place is read
-      use1 W (‵ (fat fullShare (T′.mir erased) l₃ 0 (mach (ws .0))) ⊛ ‵ (R .own (ws .0) (mach (ws .0) ∷ []))) (lies-out 𝓤 H A W κ q l₃ (ws .0)) $ split ! $
-      move ! (1 ∷ []) $ peeks ! R (Is R) (shows 𝓤 H A R) (ws .0) (mach (ws .0) ∷ []) (λ was.
+      use1 W (‵ (fat fullShare (T′.mir erased) l₃ 0 (value-of (ws .0))) ⊛ ‵ (R .own (ws .0) (value-of (ws .0) ∷ []))) (lies-out 𝓤 H A W κ q l₃ (ws .0)) $ split ! $
+      move ! (1 ∷ []) $ peeks ! R (Is R) (shows 𝓤 H A R) (ws .0) (value-of (ws .0) ∷ []) (λ was.
       -- [what the reader owns; _3; the token; …; the answer's; what s owns; the number's; _7; …; _6; …; _5; …; _4; …; _3's end; _2; …; _1; …; _0; …]
       assigns ! (of-opd ! (load ! (from ! (fld ! refl (stop !))) (look-in ! 1 (sub ! 1 refl (whole !))))) (from ! (stop !)) (init ! 7 refl (tt, typed 𝓤 H A W α (ws .0) was .1 .1 .0)) $
       assigns ! (agg ! (and-then ! (load ! (from ! (stop !)) (look ! 13 refl)) (and-then ! (load ! (from ! (stop !)) (look ! 7 refl)) (no-more !)))) (from ! (stop !)) (init ! 20 refl (both-hold (hasTy S′.mir w) (answer-typed 𝓤 H A W t w is₁ .0), (answer-typed 𝓤 H A W t w is₁ .1, (typed 𝓤 H A W α (ws .0) was .1 .1 .0, tt)))) $
