@@ -1,5 +1,6 @@
 """Writes the cases of program reader_cases and what it must print for them, from document 01's rules as header_rules.py has them:
-what each step of a reader gives and where it stands then, to two steps past the last column, and from a place that a case names."""
+what each step of a new reader gives and where it stands then, to two steps past the last column, the first two by one reader that is
+held; and two steps from a place that the case names."""
 from casefile import Cases, number, refused
 from header_rules import ID, P1, Refused, column, header, read, standing, table
 
@@ -23,12 +24,17 @@ def start(file):
 
 
 def walk(file, at, count):
-    lines = []
+    """Where a reader stands at each of so many steps from a place, what it gives, and where it stands after it."""
+    steps = []
     for _ in range(count):
         said, then = step(file, at)
-        lines.append(f"  at {at} {said}, then at {then}")
+        steps.append((at, said, then))
         at = then
-    return lines
+    return steps
+
+
+def told(steps):
+    return [f"  at {at} {said}, then at {then}" for at, said, then in steps]
 
 
 cases = Cases("reader_cases")
@@ -38,8 +44,10 @@ def add(label, file, place, known=None):
     """A table file and a place. `known` is what document 01 lets one say beforehand of the step there."""
     first, columns = start(file)
     assert known is None or known == step(file, place)[0], (label, step(file, place))
-    lines = [f"a new reader at {first}", *walk(file, first, columns + 2), *walk(file, place, 2)]
-    cases.add(label, [file, number(columns + 2, 2), number(place, 8)], "\n".join(lines))
+    steps = walk(file, first, columns + 2)
+    held = f"  held: {steps[0][1]}, {steps[1][1]}, then at {steps[1][2]}"
+    lines = [f"a new reader at {first}", held, *told(steps[2:]), *told(walk(file, place, 2))]
+    cases.add(label, [file, number(columns, 2), number(place, 8)], "\n".join(lines))
 
 
 # Document 01's P1 in both orders and without a letter: three columns, the end twice, and 13 at every place that starts none.
@@ -47,7 +55,7 @@ ring = table(P1)
 for where, place, known in [("0", 0, refused(13, 0)), ("the first byte of the text", 4, refused(13, 4)), ("inside a definition", 20, refused(13, 20)), ("the closing `;`", 96, "done"),
                             ("L + 4", 97, refused(13, 97)), ("far out", 2**64 - 1, refused(13, 2**64 - 1)), ("the third definition", P1.index("start_edge") + 4, "start_edge")]:
     add(f"P1, from {where}", ring, place, known)
-add("P1 under M, from one past the first", table("M" + P1[1:]), P1.index("fac_id") + 5, refused(13, P1.index("fac_id") + 5))
+add("P1 under M, from one past the second's start", table("M" + P1[1:]), P1.index("fac_id") + 5, refused(13, P1.index("fac_id") + 5))
 add("P1 without a letter, from the second", table(P1[1:], rows=bytes(24)), P1.index("fac_id") + 3, "fac_id")
 
 # One column, 64, and names of one byte and of 24.

@@ -1,11 +1,35 @@
-// Runs the cases of data/cases over the header reader: for each its label and where a new reader stands, then what each of so many
-// steps gives and where the reader stands after it; then the same of two steps from a place that the case names. A case is a field
-// of four fields: the label, the table file, the number of steps (2 bytes) and the place (8 bytes).
+// Runs the cases of data/cases over the header reader: for each its label and where a new reader stands; what one reader gives that
+// is held over two steps; what each of so many further steps gives, and where the reader stands after it; then the same of two steps
+// from a place that the case names. A case is a field of four fields: the label, the table file, the number of further steps
+// (2 bytes) and the place (8 bytes).
+ghost use mathlib.Core.Path.{_≡_};
+ghost use Rattle.reader_cases.specs.Trails.{trailOf};
 use header::Span;
 use header::Step;
 use libc::STDOUT_FILENO;
 use number::Order;
 use refusal::Refusal;
+
+// What two steps of one reader gave, and where it stands after them.
+struct Trail {
+    first: Step,
+    second: Step,
+    at: usize,
+}
+
+// A new reader, held over two steps.
+fn two_steps(file: &[u8]) -> Trail
+    ensures { λ r. ⌜ r ≡ trailOf (now (file .entry)) ⌝ }
+{
+    let mut r = reader::open(file);
+    let first = r.step();
+    let second = r.step();
+    Trail {
+        first,
+        second,
+        at: r.at,
+    }
+}
 
 fn say(text: &[u8]) {
     io::write_all(STDOUT_FILENO, text);
@@ -58,6 +82,21 @@ fn say_step(file: &[u8], place: usize) -> usize {
     moved.at
 }
 
+// Says two steps of one reader, and answers where it stands after them.
+fn say_held(file: &[u8]) -> usize {
+    let trail = two_steps(file);
+    let first = trail.first;
+    let second = trail.second;
+    say(b"  held: ");
+    say_given(file, first);
+    say(b", ");
+    say_given(file, second);
+    say(b", then at ");
+    say_number(trail.at as u64);
+    say(b"\n");
+    trail.at
+}
+
 // So many steps from a place.
 fn say_steps(file: &[u8], first: usize, count: usize) {
     let mut place = first;
@@ -75,12 +114,12 @@ fn run_case(case: &[u8]) {
     let file = casefile::field(case, first);
     let count = number::read2(casefile::field(case, second), 0, Order::Least) as usize;
     let place = number::read8(casefile::field(case, third), 0, Order::Least) as usize;
-    let start = header::first_place(file);
     say(casefile::field(case, 0));
     say(b": a new reader at ");
-    say_number(start as u64);
+    say_number(header::first_place(file) as u64);
     say(b"\n");
-    say_steps(file, start, count);
+    let held = say_held(file);
+    say_steps(file, held, count);
     say_steps(file, place, 2);
 }
 
