@@ -1,15 +1,18 @@
-"""Writes the cases of program header_cases and what it must print for them, from document 01's rules as header_rules has them.
+"""Writes the cases of program header_cases and what it must print for them, from document 01's rules as header_rules.py has them.
 The header texts of documents 01 and 002 and what is known of them are asserted before anything is written."""
 from casefile import Cases, number, refused
-from header_rules import ID, MANY, MOST_TEXT, WIDTHS, Refused, column, fixed_bytes, header, lower, read, row_width, table
+from header_rules import ID, MANY, MOST_TEXT, P1, WIDTHS, Refused, column, fixed_bytes, header, lower, read, row_width, standing, table
 
 
 def step(columns, place):
     """What a step says, and the place after it."""
-    for c in columns:
-        if c.start == place:
-            return f"{c.name}={c.kind},{c.count},{c.key},{c.description},{c.value},{c.thematic},{c.narrative}, after {c.after}", c.after
-    return ("done" if place == columns[-1].after else refused(13, place)), place
+    try:
+        c = standing(columns, place)
+    except Refused as q:
+        return refused(*q.args), place
+    if c is None:
+        return "done", place
+    return f"{c.name}={c.kind},{c.count},{c.key},{c.description},{c.value},{c.thematic},{c.narrative}, after {c.after}", c.after
 
 
 def answer(file, place, name):
@@ -48,7 +51,6 @@ def add(label, file, says=None, place=None, name="ID", to=cases):
     to.add(label, [file, number(place, 8), name.encode()], answer(file, place, name))
 
 
-P1 = "L;Ring Table;-;id=I,1,P,Row Id,-,-,-,:fac_id=I,1,N,Face,-,-,-,:start_edge=I,1,N,Edge,-,-,-,:;"
 # Document 002: tables 10 to 13 and 16 to 20, without the footnote marks and without table 16's space.
 VMAP = {
     "10 node feature": "L;Transportation Structures Node Feature Table;-;id=I,1,P,Row Identifier,-,-,-,:f_code=T,5,N,FACC Feature Code,char.vdt,f_code1.nti,-,:"

@@ -124,6 +124,15 @@ def read(file):
     return letter, length, columns
 
 
+def standing(columns, place):
+    """The column that starts at the place, None just past the last, or Refused."""
+    for c in columns:
+        if c.start == place:
+            return c
+    if place != columns[-1].after:
+        raise Refused(13, place)
+
+
 def fixed_bytes(c):
     return 0 if c.count == "*" or c.kind == "K" else int(c.count) * WIDTHS[c.kind]
 
@@ -151,3 +160,6 @@ ID = column("id", key="P", description="Row Id")
 
 def header(*columns, letter="L", description="Test", narrative="-"):
     return f"{letter};{description};{narrative};{''.join(columns)};"
+
+
+P1 = "L;Ring Table;-;id=I,1,P,Row Id,-,-,-,:fac_id=I,1,N,Face,-,-,-,:start_edge=I,1,N,Edge,-,-,-,:;"
