@@ -214,6 +214,13 @@ fn count_columns(layout: Layout) -> usize
     lesser(layout.columns, MOST_COLUMNS)
 }
 
+// Whether a layout has no column of this number.
+pub fn no_such_column(layout: Layout, column: usize) -> bool
+    ensures { λ r. ⌜ r ≡ noSuchColumn layout column ⌝ }
+{
+    no_such(count_columns(layout), column)
+}
+
 // One walk over a whole row that keeps the places of the columns that `slots` asks for.
 pub fn find_places(file: &[u8], layout: Layout, start: usize, end: usize, slots: [u8; 64]) -> Places
     ensures { λ r. ⌜ r ≡ placesOf (now (file .entry)) layout start end slots ⌝ }
@@ -342,11 +349,10 @@ pub fn column_place(file: &[u8], layout: Layout, start: usize, end: usize, colum
     if lies_outside(file, start, end) {
         return 0;
     }
-    let n = count_columns(layout);
-    if no_such(n, layout.id) {
+    if no_such_column(layout, layout.id) {
         return 0;
     }
-    if no_such(n, column) {
+    if no_such_column(layout, column) {
         return 0;
     }
     let found = find_column(file, layout, start, end, 0, column);
