@@ -1,9 +1,10 @@
 -- "From K the internal id is taken; absent, null or negative numbers load as 0."
-use mathlib.Core.Bool.{Bool, cond}
+use mathlib.Core.Path.{_≡_}
+use mathlib.Core.Bool.{Bool, false, cond}
 use mathlib.Core.List.{List, [], _∷_}
-use Prim.Native.Nat.{ℕ, suc, pred, _-_}
+use Prim.Native.Nat.{ℕ, suc, pred, _-_, _≤_, _<_}
 use lib.Dec.{ltb}
-use lib.ListN.{take, drop}
+use lib.ListN.{take, drop, set, replicate}
 use Rattle.number.specs.declared.Order.{Order}
 use Rattle.number.specs.Bytes.{number}
 use Rattle.field.specs.declared.FieldType.{FieldType}
@@ -12,7 +13,8 @@ use Rattle.triplet.specs.declared.Triplet.{Triplet}
 use Rattle.triplet.specs.declared.Triplet.the-variants.{Is, Refused}
 use Rattle.triplet.specs.Triplet.{tripletOf}
 use Rattle.header.specs.declared.Layout.{Layout}
-use Rattle.table.specs.Rows.{columnAt, boundOf, columnPlace}
+use Rattle.header.specs.Judge.{mostColumns}
+use Rattle.table.specs.Rows.{columnAt, noSuchColumn, boundOf, columnPlace}
 use Rattle.load.specs.Sources.{atPlace}
 
 -- the patterns from 2,147,483,648 on are the negative numbers and null
@@ -47,3 +49,19 @@ edgeCells s l start end columns =
 -- THE CELL of column k in row i, for i + 1 = 1, 2, ..: what a lent column holds at i
 unfoldable pub cellOf : List ℕ → List ℕ → Layout → ℕ → ℕ → ℕ
 cellOf file index l k i = cellIn file l (boundOf l index i) (boundOf l index (suc i)) k
+
+-- ---- what the writing of judged rows stands on
+
+-- the six columns of edges are there
+abbrev pub EdgeColumns : Layout → List ℕ → Type 0
+EdgeColumns l columns = (k : ℕ) → 0 < k → k ≤ 6 → noSuchColumn l (atPlace columns k) ≡ false
+
+abbrev pub SixThere : List ℕ → Type 0
+SixThere columns = (k : ℕ) → 0 < k → k ≤ 6 → (0 < atPlace columns k) × (atPlace columns k ≤ mostColumns)
+
+-- one walk keeps the six: the column of place k asks for slot k
+abbrev pub ask : List ℕ → List ℕ → ℕ → List ℕ
+ask slots columns k = set slots (atPlace columns k - 1) k
+
+unfoldable pub slotsOf : List ℕ → List ℕ
+slotsOf columns = ask (ask (ask (ask (ask (ask (replicate mostColumns 0) columns 1) columns 2) columns 3) columns 4) columns 5) columns 6

@@ -77,7 +77,7 @@ fn fit(layout: Layout, place: usize, column: usize) -> usize
 }
 
 // The numbers of the ten columns, by their places; 0 for one that is missing or of a wrong type.
-pub fn find_columns(edg: &[u8], fac: &[u8], rng: &[u8], cnd: &[u8], tables: Tables) -> [usize; 10]
+pub(crate) fn find_columns(edg: &[u8], fac: &[u8], rng: &[u8], cnd: &[u8], tables: Tables) -> [usize; 10]
     ensures { λ r. ⌜ r ≡ columnsFor (now (edg .entry)) (now (fac .entry)) (now (rng .entry)) (now (cnd .entry)) tables ⌝ }
 {
     let e = tables.edg;
@@ -165,7 +165,7 @@ fn rows_for(tables: Tables) -> [usize; 10]
 }
 
 // 17, 15, 14.
-pub fn judge_fit(tables: Tables, columns: [usize; 10], lengths: [usize; 10]) -> Finding
+pub(crate) fn judge_fit(tables: Tables, columns: [usize; 10], lengths: [usize; 10]) -> Finding
     ensures { λ r. ⌜ r ≡ fitFinding tables columns lengths ⌝ }
 {
     let a = judge_columns(columns);

@@ -1,6 +1,6 @@
 // Four tables to the ten columns of a tile: opened, tested, every row judged; then, and only then, written.
-pub mod cells;
-pub mod fitting;
+mod cells;
+mod fitting;
 
 use header::Answer;
 use header::Layout;
@@ -92,10 +92,14 @@ fn open_all(edg: &[u8], edx: &[u8], fac: &[u8], fax: &[u8], rng: &[u8], rnx: &[u
     let f = table::opening::open_within(fac, fax, most);
     let g = table::opening::open_within(rng, rnx, most);
     let h = table::opening::open_within(cnd, cnx, most);
-    let a = find(TableName::Edg, refusal_of(e.answer));
-    let b = find(TableName::Fac, refusal_of(f.answer));
-    let c = find(TableName::Rng, refusal_of(g.answer));
-    let d = find(TableName::Cnd, refusal_of(h.answer));
+    let of_edg = e.answer;
+    let a = find(TableName::Edg, refusal_of(of_edg));
+    let of_fac = f.answer;
+    let b = find(TableName::Fac, refusal_of(of_fac));
+    let of_rng = g.answer;
+    let c = find(TableName::Rng, refusal_of(of_rng));
+    let of_cnd = h.answer;
+    let d = find(TableName::Cnd, refusal_of(of_cnd));
     let found = first_found(a, first_found(b, first_found(c, first_found(d, find(TableName::Edg, refusal::no_refusal())))));
     let tables = Tables { edg: e.table, fac: f.table, rng: g.table, cnd: h.table };
     OpenedTables { finding: found, tables: tables }
