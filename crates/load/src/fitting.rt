@@ -7,8 +7,9 @@ use header::Layout;
 use table::Table;
 ghost use mathlib.Core.Path.{_≡_};
 ghost use Prim.Native.Nat.{_≤_, _<_};
-ghost use lib.ListN.{length};
 ghost use Rattle.laws.specs.Lowest.{lowest};
+ghost use Rattle.header.specs.Judge.{mostColumns};
+ghost use Rattle.table.specs.Rows.{columnAt};
 ghost use Rattle.load.specs.Sources.{tableAt, tripletsToo, typeFits, fitting, columnsFor, rowsFor};
 ghost use Rattle.load.specs.Load.{missing, columnFinding, emptyFinding, tooShort, roomFinding, fitFinding};
 
@@ -61,6 +62,15 @@ fn type_fits(place: usize, kind: FieldType) -> bool
     false
 }
 
+// The type of a column.
+fn column_kind(layout: Layout, column: usize) -> FieldType
+    requires { ⌜ (0 < column) × (column ≤ mostColumns) ⌝ }
+    ensures { λ r. ⌜ r ≡ columnAt layout column .kind ⌝ }
+{
+    let c = layout.cols[column - 1];
+    c.kind
+}
+
 // The column, if the table has it and its type fits the place, or 0.
 fn fit(layout: Layout, place: usize, column: usize) -> usize
     ensures { λ r. ⌜ r ≡ fitting layout place column ⌝ }
@@ -68,9 +78,7 @@ fn fit(layout: Layout, place: usize, column: usize) -> usize
     if table::no_such_column(layout, column) {
         return 0;
     }
-    let c = layout.cols[column - 1];
-    let kind = c.kind;
-    if type_fits(place, kind) {
+    if type_fits(place, column_kind(layout, column)) {
         return column;
     }
     0

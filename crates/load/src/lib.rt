@@ -101,7 +101,11 @@ fn open_all(edg: &[u8], edx: &[u8], fac: &[u8], fax: &[u8], rng: &[u8], rnx: &[u
     let of_cnd = h.answer;
     let d = find(TableName::Cnd, refusal_of(of_cnd));
     let found = first_found(a, first_found(b, first_found(c, first_found(d, find(TableName::Edg, refusal::no_refusal())))));
-    let tables = Tables { edg: e.table, fac: f.table, rng: g.table, cnd: h.table };
+    let edges = e.table;
+    let faces = f.table;
+    let rings = g.table;
+    let nodes = h.table;
+    let tables = Tables { edg: edges, fac: faces, rng: rings, cnd: nodes };
     OpenedTables { finding: found, tables: tables }
 }
 
