@@ -1,5 +1,5 @@
 -- Rows judged one after the other, each from where the last ended. Assumes nothing.
-use mathlib.Core.Path.{_≡_, refl, sym, ap, _∙_}
+use mathlib.Core.Path.{_≡_, ap, _∙_}
 use mathlib.Core.List.{List}
 use Prim.Native.Nat.{ℕ, pred, min, _+_, _≤_, _<_}
 use native.Mathlib.Omega.{arith}

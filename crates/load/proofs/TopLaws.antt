@@ -1,16 +1,14 @@
 -- What all tests found, and what follows for the writing. Assumes nothing.
 use mathlib.Core.Path.{_≡_, refl, sym, ap, _∙_}
-use mathlib.Core.Bool.{Bool, true, false, cond}
+use mathlib.Core.Bool.{false}
 use mathlib.Core.List.{List, [], _∷_, _++_}
 use Prim.Native.Nat.{ℕ, zero, suc, _≤_, _<_}
 use native.Mathlib.Omega.{arith}
 use borrow.Author.Tests.{eq-eqb, ne-eqb, eqb-true, eqb-false, ltb-false}
 use lib.Dec.{eqb}
-use Rattle.laws.specs.Lowest.{lowest, None}
+use Rattle.laws.specs.Lowest.{None}
 use Rattle.laws.specs.Buffer.{front}
 use Rattle.laws.proofs.LowestLaws.{bool-cases, lowest-zero}
-use Rattle.refusal.specs.declared.Refusal.{Refusal}
-use Rattle.refusal.specs.Order.{located}
 use Rattle.refusal.proofs.OrderLaws.{located-passes, all-passed}
 use Rattle.header.specs.declared.Layout.{Layout}
 use Rattle.table.specs.declared.Table.{Table}
@@ -23,11 +21,10 @@ use Rattle.load.specs.declared.Tables.{Tables}
 use Rattle.load.specs.declared.Finding.{Finding}
 use Rattle.load.specs.declared.OpenedTables.{OpenedTables}
 use Rattle.load.specs.declared.Judged.{Judged}
-use Rattle.load.specs.declared.Loaded.{Loaded}
 use Rattle.load.specs.declared.Loaded.the-variants.{Tile, Refused}
 use Rattle.load.specs.Sources.{Files, fileOf, indexOf, tableIn, tablesOf, typeFits, fitting, columnFor, columnsFor, atPlace, rowsFor}
 use Rattle.load.specs.Cells.{cellOf, EdgeColumns}
-use Rattle.load.specs.Load.{finding, noFinding, firstFound, firstFinding, openingTests, missing, columnFinding, emptyFinding, tooShort, roomAt, roomFinding, fitTests, RowsJudged, FewRows, rowsRefusal, rowTests, columnsOf, tests, openedAll, fitFinding, allRowsFinding, loadFinding, judgedOf, counts, loadOf, cellsOf}
+use Rattle.load.specs.Load.{finding, noFinding, firstFound, firstFinding, openingTests, missing, columnFinding, emptyFinding, tooShort, roomAt, roomFinding, fitTests, RowsJudged, FewRows, rowsRefusal, rowTests, columnsOf, openedAll, fitFinding, allRowsFinding, loadFinding, judgedOf, counts, loadOf, cellsOf}
 
 -- ---- the first of two, of three, of lists
 

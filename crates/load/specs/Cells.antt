@@ -1,8 +1,8 @@
 -- "From K the internal id is taken; absent, null or negative numbers load as 0."
 use mathlib.Core.Path.{_≡_}
-use mathlib.Core.Bool.{Bool, false, cond}
+use mathlib.Core.Bool.{false, cond}
 use mathlib.Core.List.{List, [], _∷_}
-use Prim.Native.Nat.{ℕ, suc, pred, _-_, _≤_, _<_}
+use Prim.Native.Nat.{ℕ, suc, _-_, _≤_, _<_}
 use lib.Dec.{ltb}
 use lib.ListN.{take, drop, set, replicate}
 use Rattle.number.specs.declared.Order.{Order}

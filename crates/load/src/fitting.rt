@@ -4,7 +4,6 @@ use crate::TableName;
 use crate::Tables;
 use field::FieldType;
 use header::Layout;
-use table::Table;
 ghost use mathlib.Core.Path.{_≡_};
 ghost use Prim.Native.Nat.{_≤_, _<_};
 ghost use Rattle.laws.specs.Lowest.{lowest};

@@ -3,12 +3,10 @@ mod cells;
 mod fitting;
 
 use header::Answer;
-use header::Layout;
 use refusal::Refusal;
 use table::Table;
 ghost use mathlib.Core.Path.{_≡_};
 ghost use Prim.Native.Nat.{_≤_};
-ghost use lib.ListN.{length};
 ghost use Rattle.table.specs.Opening.{mostRows};
 ghost use Rattle.load.specs.declared.TableName.the-variants.{Edg, Fac, Rng, Cnd};
 ghost use Rattle.load.specs.Sources.{files};

@@ -1,10 +1,7 @@
-use borrow.Author.Needs.{needs}
 use borrow.Author.Tests.{eq-eqb, ne-eqb}
 use Rattle.load.specs.Load.{firstFound}
 use Rattle.load.proofs.first_found.Statement.{statement}
 use Rattle.load.proofs.first_found.Tie as tie
-use Rattle.load.proofs.first_found.Reads as reads
-use Rattle.load.proofs.first_found.Lts as lts
 
 -- src/lib.rt:69:1
 returns : tie.Need-returns

@@ -2,17 +2,10 @@ use Rattle.load.proofs.TopLaws.{found-early, found-late, few-rows}
 use Rattle.load.specs.Load.{openedAll}
 use Rattle.load.specs.Sources.{files}
 use Rattle.load.specs.declared.OpenedTables.{OpenedTables}
-use mathlib.Core.Path.{_≡_, refl, sym, ap, _∙_}
+use mathlib.Core.Path.{ap}
 use borrow.Author.Needs.{needs}
 use Rattle.load.proofs.judge.Statement.{statement}
 use Rattle.load.proofs.judge.Tie as tie
-use Rattle.load.proofs.judge.Reads as reads
-use Rattle.load.proofs.judge.Lts as lts
-use Rattle.load.proofs.first_found.Reads as first-found-reads
-use Rattle.load.proofs.fitting.find_columns.Reads as find-columns-reads
-use Rattle.load.proofs.fitting.judge_fit.Reads as judge-fit-reads
-use Rattle.load.proofs.judge_all_rows.Reads as judge-all-rows-reads
-use Rattle.load.proofs.open_all.Reads as open-all-reads
 
 -- src/lib.rt:153:9
 open-all-requires : tie.Need-open-all-requires

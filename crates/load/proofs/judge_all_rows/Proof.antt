@@ -1,14 +1,7 @@
-use mathlib.Core.Path.{_≡_, refl, sym, ap, _∙_}
 use borrow.Author.Needs.{needs}
 use Rattle.load.specs.Load.{allRowsFinding}
 use Rattle.load.proofs.judge_all_rows.Statement.{statement}
 use Rattle.load.proofs.judge_all_rows.Tie as tie
-use Rattle.load.proofs.judge_all_rows.Reads as reads
-use Rattle.load.proofs.judge_all_rows.Lts as lts
-use Rattle.load.proofs.find.Reads as find-reads
-use Rattle.load.proofs.first_found.Reads as first-found-reads
-use Rattle.load.proofs.judge_rows.Reads as judge-rows-reads
-use Rattle.refusal.proofs.no_refusal.Reads as no-refusal-reads
 
 -- src/lib.rt:140:34
 judge-rows-requires : tie.Need-judge-rows-requires

@@ -9,15 +9,10 @@ use Rattle.laws.proofs.LowestLaws.{none-start}
 use Rattle.laws.specs.Lowest.{None}
 use native.Mathlib.Omega.{arith}
 use Prim.Native.Nat.{_≤_, _-_}
-use mathlib.Core.Path.{_≡_, refl, sym, ap, _∙_}
+use mathlib.Core.Path.{_≡_, _∙_}
 use borrow.Author.Needs.{needs}
 use Rattle.load.proofs.judge_rows.Statement.{statement}
 use Rattle.load.proofs.judge_rows.Tie as tie
-use Rattle.load.proofs.judge_rows.Reads as reads
-use Rattle.load.proofs.judge_rows.Lts as lts
-use Rattle.refusal.proofs.no_refusal.Reads as no-refusal-reads
-use Rattle.table.proofs.judge_row.Reads as judge-row-reads
-use Rattle.table.proofs.row_bound.Reads as row-bound-reads
 
 abbrev Inv-loop : tie.InvT-loop
 Inv-loop file index layout n start₀ i₀ start i = (i ≤ n) × (n ≤ mostRows) × (start ≡ boundOf layout index i) × None (refuses (rowJudged file index layout)) i

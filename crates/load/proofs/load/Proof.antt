@@ -3,15 +3,10 @@ use Rattle.load.specs.Load.{lengthsOf}
 use Rattle.load.specs.Sources.{files, rowsFor}
 use Rattle.load.specs.declared.TableName.the-variants.{Edg, Fac, Rng, Cnd}
 use native.Mathlib.Omega.{arith}
-use mathlib.Core.Path.{_≡_, refl, sym, ap, _∙_}
+use mathlib.Core.Path.{refl}
 use borrow.Author.Needs.{needs}
 use Rattle.load.proofs.load.Statement.{statement}
 use Rattle.load.proofs.load.Tie as tie
-use Rattle.load.proofs.load.Reads as reads
-use Rattle.load.proofs.load.Lts as lts
-use Rattle.load.proofs.cells.write_column.Reads as write-column-reads
-use Rattle.load.proofs.cells.write_edges.Reads as write-edges-reads
-use Rattle.load.proofs.judge.Reads as judge-reads
 
 -- src/lib.rt:210:9
 judge-requires : tie.Need-judge-requires

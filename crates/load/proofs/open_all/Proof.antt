@@ -1,17 +1,8 @@
 use Rattle.load.proofs.OpenLaws.{all-opened}
 use Rattle.load.specs.Sources.{files}
-use mathlib.Core.Path.{_≡_, refl, sym, ap, _∙_}
 use borrow.Author.Needs.{needs}
-use Rattle.load.specs.Load.{openedAll}
 use Rattle.load.proofs.open_all.Statement.{statement}
 use Rattle.load.proofs.open_all.Tie as tie
-use Rattle.load.proofs.open_all.Reads as reads
-use Rattle.load.proofs.open_all.Lts as lts
-use Rattle.load.proofs.find.Reads as find-reads
-use Rattle.load.proofs.first_found.Reads as first-found-reads
-use Rattle.load.proofs.refusal_of.Reads as refusal-of-reads
-use Rattle.refusal.proofs.no_refusal.Reads as no-refusal-reads
-use Rattle.table.proofs.opening.open_within.Reads as open-within-reads
 
 -- src/lib.rt:91:9
 open-within-requires : tie.Need-open-within-requires

@@ -4,8 +4,6 @@ use mathlib.Core.Path.{_≡_}
 use borrow.Author.Needs.{needs}
 use Rattle.load.proofs.fitting.column_kind.Statement.{statement}
 use Rattle.load.proofs.fitting.column_kind.Tie as tie
-use Rattle.load.proofs.fitting.column_kind.Reads as reads
-use Rattle.load.proofs.fitting.column_kind.Lts as lts
 
 -- src/fitting.rt:70:25
 sub-c : tie.Need-sub-c

@@ -2,10 +2,6 @@ use borrow.Author.Needs.{needs}
 use Rattle.load.specs.Sources.{columnsFor, columnFor}
 use Rattle.load.proofs.fitting.find_columns.Statement.{statement}
 use Rattle.load.proofs.fitting.find_columns.Tie as tie
-use Rattle.load.proofs.fitting.find_columns.Reads as reads
-use Rattle.load.proofs.fitting.find_columns.Lts as lts
-use Rattle.header.proofs.find_column.Reads as find-column-reads
-use Rattle.load.proofs.fitting.fit.Reads as fit-reads
 
 -- src/fitting.rt:88:51
 slice-aggregate-find-column : tie.Need-slice-aggregate-find-column

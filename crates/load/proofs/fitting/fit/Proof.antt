@@ -3,11 +3,6 @@ use borrow.Author.Needs.{needs}
 use Rattle.load.specs.Sources.{fitting}
 use Rattle.load.proofs.fitting.fit.Statement.{statement}
 use Rattle.load.proofs.fitting.fit.Tie as tie
-use Rattle.load.proofs.fitting.fit.Reads as reads
-use Rattle.load.proofs.fitting.fit.Lts as lts
-use Rattle.load.proofs.fitting.column_kind.Reads as column-kind-reads
-use Rattle.load.proofs.fitting.type_fits.Reads as type-fits-reads
-use Rattle.table.proofs.no_such_column.Reads as no-such-column-reads
 
 -- src/fitting.rt:78:8
 no-such-column-requires : tie.Need-no-such-column-requires

@@ -2,12 +2,6 @@ use borrow.Author.Needs.{needs}
 use Rattle.load.specs.Load.{columnFinding}
 use Rattle.load.proofs.fitting.judge_columns.Statement.{statement}
 use Rattle.load.proofs.fitting.judge_columns.Tie as tie
-use Rattle.load.proofs.fitting.judge_columns.Reads as reads
-use Rattle.load.proofs.fitting.judge_columns.Lts as lts
-use Rattle.load.proofs.find.Reads as find-reads
-use Rattle.load.proofs.fitting.missing_place.Reads as missing-place-reads
-use Rattle.load.proofs.fitting.table_at.Reads as table-at-reads
-use Rattle.refusal.proofs.refuse_at.Reads as refuse-at-reads
 
 -- src/fitting.rt:141:9
 missing-place-requires : tie.Need-missing-place-requires

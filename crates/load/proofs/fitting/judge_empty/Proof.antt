@@ -3,11 +3,6 @@ use borrow.Author.Tests.{eq-eqb, ne-eqb}
 use Rattle.load.specs.Load.{emptyFinding}
 use Rattle.load.proofs.fitting.judge_empty.Statement.{statement}
 use Rattle.load.proofs.fitting.judge_empty.Tie as tie
-use Rattle.load.proofs.fitting.judge_empty.Reads as reads
-use Rattle.load.proofs.fitting.judge_empty.Lts as lts
-use Rattle.load.proofs.find.Reads as find-reads
-use Rattle.refusal.proofs.no_refusal.Reads as no-refusal-reads
-use Rattle.refusal.proofs.refuse.Reads as refuse-reads
 
 -- src/fitting.rt:141:35
 refuse-requires : tie.Need-refuse-requires

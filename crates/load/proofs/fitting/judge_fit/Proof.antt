@@ -2,15 +2,6 @@ use borrow.Author.Needs.{needs}
 use Rattle.load.specs.Load.{fitFinding}
 use Rattle.load.proofs.fitting.judge_fit.Statement.{statement}
 use Rattle.load.proofs.fitting.judge_fit.Tie as tie
-use Rattle.load.proofs.fitting.judge_fit.Reads as reads
-use Rattle.load.proofs.fitting.judge_fit.Lts as lts
-use Rattle.load.proofs.find.Reads as find-reads
-use Rattle.load.proofs.first_found.Reads as first-found-reads
-use Rattle.load.proofs.fitting.judge_columns.Reads as judge-columns-reads
-use Rattle.load.proofs.fitting.judge_empty.Reads as judge-empty-reads
-use Rattle.load.proofs.fitting.judge_room.Reads as judge-room-reads
-use Rattle.load.proofs.fitting.rows_for.Reads as rows-for-reads
-use Rattle.refusal.proofs.no_refusal.Reads as no-refusal-reads
 
 -- src/fitting.rt:179:9
 judge-columns-requires : tie.Need-judge-columns-requires

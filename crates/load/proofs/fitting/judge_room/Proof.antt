@@ -4,20 +4,10 @@ use Rattle.load.specs.Sources.{tableAt}
 use Rattle.load.specs.Load.{finding, roomAt, roomFinding}
 use Rattle.load.specs.declared.TableName.the-variants.{Edg}
 use Rattle.refusal.specs.declared.Refusal.{Refusal}
-use Rattle.laws.proofs.LowestLaws.{lowest-le}
-use native.Mathlib.Omega.{arith}
-use Prim.Native.Nat.{ℕ, _-_}
-use mathlib.Core.Path.{_≡_, ap, sym, _∙_}
+use mathlib.Core.Path.{ap, _∙_}
 use borrow.Author.Needs.{needs}
 use Rattle.load.proofs.fitting.judge_room.Statement.{statement}
 use Rattle.load.proofs.fitting.judge_room.Tie as tie
-use Rattle.load.proofs.fitting.judge_room.Reads as reads
-use Rattle.load.proofs.fitting.judge_room.Lts as lts
-use Rattle.load.proofs.find.Reads as find-reads
-use Rattle.load.proofs.fitting.short_place.Reads as short-place-reads
-use Rattle.load.proofs.fitting.table_at.Reads as table-at-reads
-use Rattle.refusal.proofs.no_refusal.Reads as no-refusal-reads
-use Rattle.refusal.proofs.refuse.Reads as refuse-reads
 
 -- src/fitting.rt:157:9
 short-place-requires : tie.Need-short-place-requires

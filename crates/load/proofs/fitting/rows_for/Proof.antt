@@ -2,8 +2,6 @@ use borrow.Author.Needs.{needs}
 use Rattle.load.specs.Sources.{rowsFor}
 use Rattle.load.proofs.fitting.rows_for.Statement.{statement}
 use Rattle.load.proofs.fitting.rows_for.Tie as tie
-use Rattle.load.proofs.fitting.rows_for.Reads as reads
-use Rattle.load.proofs.fitting.rows_for.Lts as lts
 
 -- src/fitting.rt:157:1
 returns : tie.Need-returns

@@ -1,10 +1,7 @@
-use borrow.Author.Needs.{needs}
 use borrow.Author.Tests.{eq-eqb, le-leb, le-ltb, lt-leb, lt-ltb, ne-eqb}
 use Rattle.load.specs.Sources.{tableAt}
 use Rattle.load.proofs.fitting.table_at.Statement.{statement}
 use Rattle.load.proofs.fitting.table_at.Tie as tie
-use Rattle.load.proofs.fitting.table_at.Reads as reads
-use Rattle.load.proofs.fitting.table_at.Lts as lts
 
 -- src/fitting.rt:27:9
 returns : tie.Need-returns

@@ -1,10 +1,7 @@
-use borrow.Author.Needs.{needs}
 use borrow.Author.Tests.{le-leb, le-ltb, lt-leb, lt-ltb}
 use Rattle.load.specs.Sources.{tripletsToo}
 use Rattle.load.proofs.fitting.takes_triplets.Statement.{statement}
 use Rattle.load.proofs.fitting.takes_triplets.Tie as tie
-use Rattle.load.proofs.fitting.takes_triplets.Reads as reads
-use Rattle.load.proofs.fitting.takes_triplets.Lts as lts
 
 -- src/fitting.rt:43:9
 returns : tie.Need-returns

@@ -2,11 +2,6 @@ use borrow.Author.Needs.{needs}
 use Rattle.load.specs.Sources.{typeFits}
 use Rattle.load.proofs.fitting.type_fits.Statement.{statement}
 use Rattle.load.proofs.fitting.type_fits.Tie as tie
-use Rattle.load.proofs.fitting.type_fits.Reads as reads
-use Rattle.load.proofs.fitting.type_fits.Lts as lts
-use Rattle.field.proofs.FieldType.is_integer.Reads as is-integer-reads
-use Rattle.field.proofs.FieldType.is_triplet.Reads as is-triplet-reads
-use Rattle.load.proofs.fitting.takes_triplets.Reads as takes-triplets-reads
 
 -- src/fitting.rt:55:8
 is-integer-requires : tie.Need-is-integer-requires
