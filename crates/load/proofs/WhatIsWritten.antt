@@ -7,10 +7,10 @@ use Prim.Native.Nat.{ℕ, suc, _-_, _≤_, _<_}
 use native.Mathlib.Omega.{arith}
 use borrow.Author.Tests.{eqb-true, le-ltb}
 use lib.Dec.{eqb, ltb}
-use lib.ListN.{getD, take, drop}
+use lib.ListN.{length, getD, take, drop}
 use Rattle.laws.specs.Lowest.{In}
 use Rattle.laws.proofs.LowestLaws.{bool-cases}
-use Rattle.laws.proofs.BufferLaws.{front-low, front-high}
+use Rattle.laws.proofs.BufferLaws.{length-front, front-low, front-high}
 use Rattle.number.specs.declared.Order.{Order}
 use Rattle.number.specs.Bytes.{number}
 use Rattle.grammar.specs.Words.{Reading}
@@ -158,6 +158,10 @@ module _ (f : Files) (most : ℕ) (lengths : List ℕ) (c : Counts) (e : loadOf 
       ∙ cell-is-value (fileOf f n) (indexOf f n) most reading (countOf c n) opens i more (loads .rows n (suc i) (omega arith, more)) column (column-found .1)
       ∙ ap (λ (t : Table). loaded (valueOf (fileOf f n) (indexOf f n) t (suc i) column)) (sym (opened-table (fileOf f n) (indexOf f n) most reading (countOf c n) opens))
 
-  -- and past the rows nothing is written
+  -- past the rows nothing is written, and the column is as long as before
   pub rest-as-it-was : (i : ℕ) → countOf c n ≤ i → getD left i 0 ≡ getD d i 0
   rest-as-it-was i past = front-high (cellsOf f most n k) (tableIn (tablesOf f most) n .rows) d i (omega (arith, rows-counted))
+
+  pub length-as-it-was : atPlace lengths k ≡ length d → length left ≡ length d
+  length-as-it-was q =
+      length-front (cellsOf f most n k) (tableIn (tablesOf f most) n .rows) d (omega (arith, rows-counted, loads .room k at-place))
