@@ -7,6 +7,7 @@ use report::Sizes;
 use report::TooLarge;
 use report::MOST_ROWS;
 use tile::Verdict;
+use tile::Walked;
 ghost use mathlib.Core.Path.{_≡_};
 ghost use mathlib.Core.Bool.{cond};
 ghost use mathlib.Core.List.{[]};
@@ -14,7 +15,8 @@ ghost use Prim.Native.Nat.{_≤_};
 ghost use lib.ListN.{length, take};
 ghost use Rattle.side.specs.Edges.{edges};
 ghost use Rattle.tile.specs.Columns.{tile};
-ghost use Rattle.tile.specs.Check.{verdictOf, marksAfter};
+ghost use Rattle.tile.specs.Check.{marksAfter};
+ghost use Rattle.tile.specs.Walk.{walkOf, sidesWritten};
 ghost use Rattle.load.specs.declared.TableName.the-variants.{Edg, Fac, Rng, Cnd};
 ghost use Rattle.load.specs.Load.{lengthsOf};
 ghost use Rattle.report.specs.Files.{tooLarge, showsTriplet};
@@ -162,4 +164,53 @@ pub fn judge(
             return Outcome::Refused(name(report::file_of_finding(cnx_read, found), found.refusal));
         }
     }
+}
+
+// The first n of a column, or as many as it has.
+fn front_of<'a>(column: &'a [u32], n: usize) -> &'a [u32]
+    ensures { λ r. ⌜ now r ≡ take n (now (column .entry)) ⌝ }
+{
+    if column.len() <= n {
+        return column;
+    }
+    &column[0..n]
+}
+
+// The walk from a ring row of the tile that stands at the front of ten columns: its steps, and its sides.
+pub fn walk_ring(
+    counts: Counts,
+    start_node: &[u32],
+    end_node: &[u32],
+    right_face: &[u32],
+    left_face: &[u32],
+    right_edge: &[u32],
+    left_edge: &[u32],
+    ring_ptr: &[u32],
+    fac_id: &[u32],
+    start_edge: &[u32],
+    first_edge: &[u32],
+    row: usize,
+    sides: &mut [u32],
+) -> Walked
+    ensures { λ r. ⌜ r ≡ walkOf (tile (edges (take (counts .edges) (now («start_node» .entry))) (take (counts .edges) (now («end_node» .entry))) (take (counts .edges) (now («right_face» .entry))) (take (counts .edges) (now («left_face» .entry))) (take (counts .edges) (now («right_edge» .entry))) (take (counts .edges) (now («left_edge» .entry)))) (take (counts .faces) (now («ring_ptr» .entry))) (take (counts .rings) (now («fac_id» .entry))) (take (counts .rings) (now («start_edge» .entry))) (take (counts .nodes) (now («first_edge» .entry)))) row (length (now (sides .entry))) ⌝ }
+    ensures { λ r. ⌜ now (sides .exit) ≡ sidesWritten (tile (edges (take (counts .edges) (now («start_node» .entry))) (take (counts .edges) (now («end_node» .entry))) (take (counts .edges) (now («right_face» .entry))) (take (counts .edges) (now («left_face» .entry))) (take (counts .edges) (now («right_edge» .entry))) (take (counts .edges) (now («left_edge» .entry)))) (take (counts .faces) (now («ring_ptr» .entry))) (take (counts .rings) (now («fac_id» .entry))) (take (counts .rings) (now («start_edge» .entry))) (take (counts .nodes) (now («first_edge» .entry)))) row r (now (sides .entry)) ⌝ }
+{
+    let e = counts.edges;
+    let f = counts.faces;
+    let r = counts.rings;
+    let n = counts.nodes;
+    tile::walk(
+        front_of(start_node, e),
+        front_of(end_node, e),
+        front_of(right_face, e),
+        front_of(left_face, e),
+        front_of(right_edge, e),
+        front_of(left_edge, e),
+        front_of(ring_ptr, f),
+        front_of(fac_id, r),
+        front_of(start_edge, r),
+        front_of(first_edge, n),
+        row,
+        sides,
+    )
 }
