@@ -1,17 +1,6 @@
-// Reads the tile of the directory that it is run in, and writes what document 01 says of it: the counts, each ring with its steps and
-// the steps of all, or the refusal with its file, number and place. Everything that decides stands in the libraries.
-use directory::Named;
-use directory::Outcome;
-use libc::STDOUT_FILENO;
-use load::Counts;
+// Reads the tile of the directory that it is run in, and writes what document 01 says of it.
 use report::Sizes;
-use report::LINE_ROOM;
 use report::MOST_BYTES;
-use report::MOST_ROWS;
-use tile::Walked;
-
-// Two sides to an edge.
-const MOST_SIDES: usize = 2000;
 
 // Reads a file into the buffer: how many bytes it has, or more than the buffer holds where it has more. One that cannot be read
 // counts as empty.
@@ -43,108 +32,6 @@ fn lent<'a>(buf: &'a [u8; MOST_BYTES], size: usize) -> &'a [u8] {
     front(buf, size)
 }
 
-// A line of so many bytes.
-fn say_line(line: &[u8; LINE_ROOM], n: usize) {
-    io::write_all(STDOUT_FILENO, front(line, n));
-}
-
-fn say_refused(named: Named) {
-    let mut line = [0u8; LINE_ROOM];
-    let file = named.file;
-    let n = report::refuse_line(file, named.refusal, &mut line);
-    say_line(&line, n);
-}
-
-fn say_counts(counts: Counts) {
-    let mut line = [0u8; LINE_ROOM];
-    let n = report::accept_line(counts, &mut line);
-    say_line(&line, n);
-}
-
-fn say_ring(row: usize, face: u32, steps: usize) {
-    let mut line = [0u8; LINE_ROOM];
-    let n = report::ring_line(row, face, steps, &mut line);
-    say_line(&line, n);
-}
-
-fn say_steps(all: usize) {
-    let mut line = [0u8; LINE_ROOM];
-    let n = report::steps_line(all, &mut line);
-    say_line(&line, n);
-}
-
-// The steps of a walk. In an accepted tile every walk has them.
-fn steps_of(walked: Walked) -> usize {
-    match walked {
-        Walked::Steps(n) => n,
-        Walked::Refused(_) => 0,
-    }
-}
-
-// No sum of steps that can occur is greater.
-const MOST_STEPS: usize = 1000000000;
-
-// Adds up steps. The steps of an accepted tile are twice its edges, so that nothing is ever cut.
-fn add(a: usize, b: usize) -> usize {
-    if MOST_STEPS < a {
-        return a;
-    }
-    if MOST_STEPS < b {
-        return a;
-    }
-    a + b
-}
-
-// The rings of a loaded tile, row after row: the steps of all.
-fn say_rings(
-    counts: Counts,
-    start_node: &[u32; MOST_ROWS],
-    end_node: &[u32; MOST_ROWS],
-    right_face: &[u32; MOST_ROWS],
-    left_face: &[u32; MOST_ROWS],
-    right_edge: &[u32; MOST_ROWS],
-    left_edge: &[u32; MOST_ROWS],
-    ring_ptr: &[u32; MOST_ROWS],
-    fac_id: &[u32; MOST_ROWS],
-    start_edge: &[u32; MOST_ROWS],
-    first_edge: &[u32; MOST_ROWS],
-) -> usize {
-    let mut sides = [0u32; MOST_SIDES];
-    let rings = counts.rings;
-    let mut all: usize = 0;
-    let mut i: usize = 0;
-    while i < rings {
-        let row = i + 1;
-        let steps = steps_of(directory::walk_ring(counts, start_node, end_node, right_face, left_face, right_edge, left_edge, ring_ptr, fac_id, start_edge, first_edge, row, &mut sides));
-        say_ring(row, side::row(fac_id, row), steps);
-        all = add(all, steps);
-        i = row;
-    }
-    all
-}
-
-// Judges what was read, and says it.
-fn say_tile(sizes: Sizes, edg: &[u8], edx: &[u8], fac: &[u8], rng: &[u8], cnd: &[u8], cnx: &[u8]) {
-    let mut start_node = [0u32; MOST_ROWS];
-    let mut end_node = [0u32; MOST_ROWS];
-    let mut right_face = [0u32; MOST_ROWS];
-    let mut left_face = [0u32; MOST_ROWS];
-    let mut right_edge = [0u32; MOST_ROWS];
-    let mut left_edge = [0u32; MOST_ROWS];
-    let mut ring_ptr = [0u32; MOST_ROWS];
-    let mut fac_id = [0u32; MOST_ROWS];
-    let mut start_edge = [0u32; MOST_ROWS];
-    let mut first_edge = [0u32; MOST_ROWS];
-    let mut marks = [0u32; MOST_SIDES];
-    match directory::judge(sizes, edg, edx, fac, rng, cnd, cnx, &mut start_node, &mut end_node, &mut right_face, &mut left_face, &mut right_edge, &mut left_edge, &mut ring_ptr, &mut fac_id, &mut start_edge, &mut first_edge, &mut marks) {
-        Outcome::Accepted(counts) => {
-            say_counts(counts);
-            say_steps(say_rings(counts, &start_node, &end_node, &right_face, &left_face, &right_edge, &left_edge, &ring_ptr, &fac_id, &start_edge, &first_edge));
-        }
-        Outcome::Refused(named) => say_refused(named),
-    }
-}
-
 // "cnx if K occurs": its size, where it is read.
 fn read_node_index(cnd: &[u8], buf: &mut [u8]) -> usize {
     if report::shows_triplet(cnd) {
@@ -168,5 +55,5 @@ fn main() {
     let nodes = lent(&cnd, of_cnd);
     let of_cnx = read_node_index(nodes, &mut cnx);
     let sizes = Sizes { edg: of_edg, edx: of_edx, fac: of_fac, rng: of_rng, cnd: of_cnd, cnx: of_cnx };
-    say_tile(sizes, lent(&edg, of_edg), lent(&edx, of_edx), lent(&fac, of_fac), lent(&rng, of_rng), nodes, lent(&cnx, of_cnx));
+    teller::tell_tile(sizes, lent(&edg, of_edg), lent(&edx, of_edx), lent(&fac, of_fac), lent(&rng, of_rng), nodes, lent(&cnx, of_cnx));
 }
