@@ -4,3 +4,4 @@ pub mod LineFits
 pub mod DecimalSays
 pub mod RingOrFace
 pub mod Examples
+pub mod TripletShown
