@@ -39,6 +39,7 @@ static uint64_t number(const uint8_t *p, int n, bool most) {
 }
 
 #define LARGEST 2147483647u
+#define MOST_ROWS 1000000
 
 vumbarete_triplet_answer ref_triplet(const uint8_t *s, size_t n, bool most) {
     static const int bytes_of[4] = {0, 1, 2, 4};
@@ -74,9 +75,418 @@ vumbarete_written_answer ref_write_triplet(uint8_t *row, size_t n, size_t at, ui
     return (vumbarete_written_answer){0, 0, size};
 }
 
-/* ---- the tile. Rows and sides count from 1: right of edge e is 2e-1, left is 2e. */
+/* ---- headers */
 
-#define MOST_ROWS 1000000
+typedef struct {
+    uint32_t number;
+    size_t place;
+} refusal;
+
+static const refusal fine = {0, 0};
+
+typedef struct {
+    size_t name, name_length;
+    uint8_t type, key;
+    uint32_t count; /* 0 for a star */
+} ref_column;
+
+typedef struct {
+    bool most;
+    size_t start;
+    size_t columns, id;
+    bool varies;
+    size_t width;
+    ref_column column[64];
+} ref_layout;
+
+/* "Bytes are 32 to 126. The first two fields may hold anything but `;`; column fields hold none of `; : , =`." */
+static bool in_title(uint8_t b) { return b >= 32 && b <= 126 && b != ';'; }
+static bool in_column(uint8_t b) { return b >= 32 && b <= 126 && b != ';' && b != ':' && b != ',' && b != '='; }
+
+/* The text from `at` up to `end`, taken piece by piece; the first byte that cannot continue stops it for good. */
+typedef struct {
+    const uint8_t *file;
+    size_t at, end;
+    bool bad;
+} reader;
+
+static void expect(reader *r, uint8_t b) {
+    if (r->bad) return;
+    if (r->at < r->end && r->file[r->at] == b) r->at++;
+    else r->bad = true;
+}
+
+/* least to most bytes of a class; returns how many */
+static size_t some(reader *r, bool (*class)(uint8_t), size_t least, size_t most) {
+    size_t n = 0;
+    if (r->bad) return 0;
+    while (n < most && r->at < r->end && class(r->file[r->at])) n++, r->at++;
+    if (n < least) r->bad = true;
+    return n;
+}
+
+static uint32_t count_in(reader *r) {
+    uint32_t v = 0;
+    if (r->bad) return 0;
+    if (r->at < r->end && r->file[r->at] == '*') {
+        r->at++;
+        return 0;
+    }
+    if (r->at >= r->end || r->file[r->at] == '0' || !digit(r->file[r->at])) {
+        r->bad = true;
+        return 0;
+    }
+    for (int i = 0; i < 5 && r->at < r->end && digit(r->file[r->at]); i++) v = v * 10 + (r->file[r->at++] - '0');
+    return v;
+}
+
+/* the bytes of one element of a type; -1 for a letter that is not listed */
+static int element(uint8_t type) {
+    switch (type) {
+    case 'T': case 'L': return 1;
+    case 'F': return 4;
+    case 'R': return 8;
+    case 'S': return 2;
+    case 'I': return 4;
+    case 'C': return 8;
+    case 'Z': return 12;
+    case 'B': return 16;
+    case 'Y': return 24;
+    case 'D': return 20;
+    case 'X': return 0;
+    case 'K': return 13;
+    default: return -1;
+    }
+}
+
+static bool many(uint8_t type) { return type == 'T' || type == 'L' || type == 'C' || type == 'Z' || type == 'B' || type == 'Y'; }
+
+static bool right(const ref_column *c) {
+    if (element(c->type) < 0) return false;
+    if (c->key != 'P' && c->key != 'U' && c->key != 'N') return false;
+    return many(c->type) ? c->count <= 65535 : c->count == 1;
+}
+
+static uint8_t small(uint8_t b) { return b >= 'A' && b <= 'Z' ? b + 32 : b; }
+
+static bool same_name(const uint8_t *a, size_t n, const uint8_t *b, size_t m) {
+    if (n != m) return false;
+    for (size_t i = 0; i < n; i++)
+        if (small(a[i]) != small(b[i])) return false;
+    return true;
+}
+
+static refusal header_of(const uint8_t *file, size_t n, ref_layout *l) {
+    if (n < 5) return (refusal){1, n};
+    if (file[4] != 'L' && file[4] != 'M' && file[4] != ';') return (refusal){2, 4};
+    l->most = file[4] == 'M';
+    uint64_t length = number(file, 4, l->most);
+    if (length + 4 > n) return (refusal){1, n};
+    if (length > 32767) return (refusal){15, 0};
+    reader r = {file, 4, 4 + length, false};
+    if (r.at < r.end && file[4] != ';') r.at++;
+    expect(&r, ';');
+    some(&r, in_title, 0, 80);
+    expect(&r, ';');
+    some(&r, in_title, 1, 12);
+    expect(&r, ';');
+    size_t columns = 0, wrong = 0;
+    do {
+        ref_column c;
+        c.name = r.at;
+        c.name_length = some(&r, in_column, 1, 24);
+        expect(&r, '=');
+        c.type = r.at < r.end ? file[r.at] : 0;
+        some(&r, in_column, 1, 1);
+        expect(&r, ',');
+        c.count = count_in(&r);
+        expect(&r, ',');
+        c.key = r.at < r.end ? file[r.at] : 0;
+        some(&r, in_column, 1, 1);
+        expect(&r, ',');
+        some(&r, in_column, 0, 80);
+        expect(&r, ',');
+        for (int i = 0; i < 3; i++) {
+            some(&r, in_column, 1, 12);
+            expect(&r, ',');
+        }
+        expect(&r, ':');
+        columns++;
+        if (columns <= 64) l->column[columns - 1] = c;
+        if (!wrong && !r.bad && !right(&c)) wrong = columns;
+    } while (!r.bad && !(r.at < r.end && file[r.at] == ';'));
+    expect(&r, ';');
+    if (r.bad || r.at != r.end) return (refusal){3, r.at};
+    if (wrong) return (refusal){4, wrong};
+    if (columns > 64) return (refusal){5, 65};
+    for (size_t k = 1; k < columns; k++)
+        for (size_t j = 0; j < k; j++)
+            if (same_name(file + l->column[j].name, l->column[j].name_length, file + l->column[k].name, l->column[k].name_length))
+                return (refusal){5, k + 1};
+    l->start = 4 + length, l->columns = columns, l->id = 0, l->varies = false, l->width = 0;
+    for (size_t k = 0; k < columns; k++) {
+        ref_column *c = &l->column[k];
+        bool id = same_name(file + c->name, c->name_length, (const uint8_t *)"id", 2);
+        if (id) {
+            if (c->type != 'I' || c->key != 'P') return (refusal){6, 0};
+            l->id = k + 1;
+        } else if (c->key == 'P') {
+            return (refusal){6, 0};
+        }
+        if (c->count == 0 || c->type == 'K') l->varies = true;
+        l->width += (size_t)c->count * (size_t)element(c->type);
+    }
+    if (l->id == 0) return (refusal){6, 0};
+    if (l->varies) l->width = 0;
+    return fine;
+}
+
+vumbarete_header_answer ref_header(const uint8_t *file, size_t n) {
+    ref_layout l;
+    refusal q = header_of(file, n, &l);
+    if (q.number) return (vumbarete_header_answer){.number = q.number, .place = q.place};
+    return (vumbarete_header_answer){0, 0, l.most ? 'M' : 'L', (uint32_t)l.start, l.columns, l.id, (uint32_t)l.width};
+}
+
+size_t ref_find_column(const uint8_t *file, size_t n, const uint8_t *name, size_t m) {
+    ref_layout l;
+    if (header_of(file, n, &l).number) return 0;
+    for (size_t k = 0; k < l.columns; k++)
+        if (same_name(file + l.column[k].name, l.column[k].name_length, name, m)) return k + 1;
+    return 0;
+}
+
+/* ---- tables */
+
+typedef struct {
+    const uint8_t *file, *index;
+    size_t size;
+    ref_layout layout;
+    size_t rows;
+} ref_table;
+
+/* entry i of the index, from 1 */
+static uint64_t offset_of(const ref_table *t, size_t i) { return number(t->index + 8 * i, 4, t->layout.most); }
+static uint64_t length_of(const ref_table *t, size_t i) { return number(t->index + 8 * i + 4, 4, t->layout.most); }
+
+static refusal open_of(const uint8_t *file, size_t n, const uint8_t *index, size_t m, size_t most, ref_table *t) {
+    ref_layout *l = &t->layout;
+    refusal q = header_of(file, n, l);
+    if (q.number) return q;
+    t->file = file, t->index = index, t->size = n;
+    if (!l->varies) {
+        size_t body = n - l->start;
+        t->rows = body / l->width;
+        if (t->rows > most || t->rows > MOST_ROWS) return (refusal){15, 0};
+        if (m != 0 || body % l->width) return (refusal){7, n};
+        return fine;
+    }
+    if (m < 8) return (refusal){8, 0};
+    uint64_t said = number(index, 4, l->most), head = number(index + 4, 4, l->most);
+    if (said > most || said > MOST_ROWS) return (refusal){15, 0};
+    if (m != 8 + 8 * said || (head != l->start && head + 4 != l->start)) return (refusal){8, 0};
+    t->rows = said;
+    uint64_t at = l->start;
+    for (size_t i = 1; i <= said; i++) {
+        if (offset_of(t, i) != at) return (refusal){8, i};
+        at += length_of(t, i);
+    }
+    if (at != n) return (refusal){8, said};
+    return fine;
+}
+
+static vumbarete_table_answer shown_table(refusal q, const ref_table *t) {
+    const ref_layout *l = &t->layout;
+    if (q.number) return (vumbarete_table_answer){.number = q.number, .place = q.place};
+    return (vumbarete_table_answer){0, 0, l->most ? 'M' : 'L', (uint32_t)l->start, l->columns, l->id, (uint32_t)l->width, t->rows};
+}
+
+vumbarete_table_answer ref_open(const uint8_t *file, size_t n, const uint8_t *index, size_t m) {
+    ref_table t;
+    return shown_table(open_of(file, n, index, m, MOST_ROWS, &t), &t);
+}
+
+/* Row i, from 1, of 1..rows: its bytes, where each column's field starts (place[k] of column k + 1), and its judgement. */
+typedef struct {
+    size_t start, end;
+    size_t place[64];
+} ref_fields;
+
+static refusal fields_of(const ref_table *t, size_t i, ref_fields *r) {
+    const ref_layout *l = &t->layout;
+    if (l->varies) {
+        r->start = offset_of(t, i);
+        r->end = r->start + length_of(t, i);
+    } else {
+        r->start = l->start + (i - 1) * l->width;
+        r->end = r->start + l->width;
+    }
+    size_t at = r->start;
+    for (size_t k = 0; k < l->columns; k++) {
+        const ref_column *c = &l->column[k];
+        r->place[k] = at;
+        if (c->type == 'K') {
+            vumbarete_triplet_answer a = ref_triplet(t->file + at, r->end - at, l->most);
+            if (a.number) return (refusal){11, a.place};
+            at += a.bytes;
+        } else {
+            uint64_t count = c->count;
+            if (count == 0) {
+                if (r->end - at < 4) return (refusal){10, i};
+                count = number(t->file + at, 4, l->most);
+                at += 4;
+            }
+            uint64_t bytes = count * (uint64_t)element(c->type);
+            if (bytes > r->end - at) return (refusal){10, i};
+            at += bytes;
+        }
+    }
+    if (at != r->end) return (refusal){10, i};
+    if (number(t->file + r->place[l->id - 1], 4, l->most) != i) return (refusal){9, i};
+    return fine;
+}
+
+vumbarete_table_answer ref_judge_rows(const uint8_t *file, size_t n, const uint8_t *index, size_t m) {
+    ref_table t;
+    ref_fields r;
+    refusal q = open_of(file, n, index, m, MOST_ROWS, &t);
+    for (size_t i = 1; !q.number && i <= t.rows; i++) q = fields_of(&t, i, &r);
+    return shown_table(q, &t);
+}
+
+vumbarete_row_answer ref_row(const uint8_t *file, size_t n, const uint8_t *index, size_t m, size_t row) {
+    ref_table t;
+    ref_fields r;
+    refusal q = open_of(file, n, index, m, MOST_ROWS, &t);
+    if (!q.number && (row < 1 || row > t.rows)) q = (refusal){13, row};
+    if (!q.number) q = fields_of(&t, row, &r);
+    if (q.number) return (vumbarete_row_answer){q.number, q.place, 0, 0};
+    return (vumbarete_row_answer){0, 0, r.start, r.end};
+}
+
+vumbarete_value_answer ref_value(const uint8_t *file, size_t n, const uint8_t *index, size_t m, size_t row, size_t column) {
+    ref_table t;
+    ref_fields r;
+    vumbarete_value_answer v = {0};
+    refusal q = open_of(file, n, index, m, MOST_ROWS, &t);
+    if (!q.number && (row < 1 || row > t.rows)) q = (refusal){13, row};
+    if (!q.number && (column < 1 || column > t.layout.columns)) q = (refusal){13, column};
+    if (!q.number) q = fields_of(&t, row, &r);
+    if (q.number) {
+        v.number = q.number, v.place = q.place;
+        return v;
+    }
+    const ref_column *c = &t.layout.column[column - 1];
+    const uint8_t *p = file + r.place[column - 1];
+    bool most = t.layout.most;
+    switch (c->type) {
+    case 'S':
+        v.short_ = (int16_t)(uint16_t)number(p, 2, most);
+        v.kind = v.short_ == INT16_MIN ? VUMBARETE_SHORT_NULL : VUMBARETE_SHORT;
+        if (v.kind == VUMBARETE_SHORT_NULL) v.short_ = 0;
+        break;
+    case 'I':
+        v.integer = (int32_t)(uint32_t)number(p, 4, most);
+        v.kind = v.integer == INT32_MIN ? VUMBARETE_INTEGER_NULL : VUMBARETE_INTEGER;
+        if (v.kind == VUMBARETE_INTEGER_NULL) v.integer = 0;
+        break;
+    case 'F': {
+        float f;
+        uint32_t b = (uint32_t)number(p, 4, most);
+        memcpy(&f, &b, 4);
+        v.bits = b;
+        v.kind = f != f ? VUMBARETE_FLOAT_NULL : VUMBARETE_FLOAT;
+        break;
+    }
+    case 'R': {
+        double d;
+        v.bits = number(p, 8, most);
+        memcpy(&d, &v.bits, 8);
+        v.kind = d != d ? VUMBARETE_DOUBLE_NULL : VUMBARETE_DOUBLE;
+        break;
+    }
+    case 'K': {
+        vumbarete_triplet_answer a = ref_triplet(p, r.end - r.place[column - 1], most);
+        v.kind = VUMBARETE_TRIPLET, v.id = a.id, v.tile = a.tile, v.other = a.other;
+        break;
+    }
+    case 'X': v.kind = VUMBARETE_NULL_FIELD; break;
+    case 'D': v.kind = VUMBARETE_DATE, v.start = r.place[column - 1], v.bytes = 20; break;
+    default: /* text and coordinates */
+        v.kind = c->type == 'T' || c->type == 'L' ? VUMBARETE_TEXT : VUMBARETE_COORDINATES;
+        v.start = r.place[column - 1] + (c->count ? 0 : 4);
+        v.bytes = (size_t)((c->count ? c->count : number(p, 4, most)) * (uint64_t)element(c->type));
+    }
+    return v;
+}
+
+/* ---- rectangles */
+
+static float float_at(const uint8_t *p, bool most) {
+    uint32_t b = (uint32_t)number(p, 4, most);
+    float f;
+    memcpy(&f, &b, 4);
+    return f;
+}
+
+static double double_at(const uint8_t *p, bool most) {
+    uint64_t b = number(p, 8, most);
+    double d;
+    memcpy(&d, &b, 8);
+    return d;
+}
+
+#define FINITE(x) ((x) - (x) == 0)
+
+vumbarete_rectangle_answer ref_rectangle(const uint8_t *file, size_t n, const uint8_t *index, size_t m, size_t row, size_t column) {
+    ref_table t;
+    vumbarete_rectangle_answer a = {0};
+    refusal q = open_of(file, n, index, m, MOST_ROWS, &t);
+    uint8_t type = 0;
+    if (!q.number && (row < 1 || row > t.rows)) q = (refusal){13, row};
+    if (!q.number && (column < 1 || column > t.layout.columns)) q = (refusal){13, column};
+    if (!q.number) {
+        type = t.layout.column[column - 1].type;
+        if (type != 'C' && type != 'Z' && type != 'B' && type != 'Y') q = (refusal){13, column};
+    }
+    if (q.number) {
+        a.number = q.number, a.place = q.place;
+        return a;
+    }
+    vumbarete_value_answer v = ref_value(file, n, index, m, row, column);
+    size_t each = (size_t)element(type), count = v.number ? 0 : v.bytes / each;
+    if (v.number) {
+        a.number = v.number, a.place = v.place;
+        return a;
+    }
+    if (count == 0) {
+        a.number = 12;
+        return a;
+    }
+    bool shorts = type == 'C' || type == 'Z';
+    a.width = shorts ? 4 : 8;
+    for (size_t i = 0; i < count; i++) {
+        const uint8_t *p = file + v.start + i * each;
+        if (shorts) {
+            float x = float_at(p, t.layout.most), y = float_at(p + 4, t.layout.most);
+            if (!FINITE(x) || !FINITE(y)) return (vumbarete_rectangle_answer){.number = 12, .place = i + 1};
+            if (i == 0 || x < a.short_least_x) a.short_least_x = x;
+            if (i == 0 || y < a.short_least_y) a.short_least_y = y;
+            if (i == 0 || x > a.short_greatest_x) a.short_greatest_x = x;
+            if (i == 0 || y > a.short_greatest_y) a.short_greatest_y = y;
+        } else {
+            double x = double_at(p, t.layout.most), y = double_at(p + 8, t.layout.most);
+            if (!FINITE(x) || !FINITE(y)) return (vumbarete_rectangle_answer){.number = 12, .place = i + 1};
+            if (i == 0 || x < a.least_x) a.least_x = x;
+            if (i == 0 || y < a.least_y) a.least_y = y;
+            if (i == 0 || x > a.greatest_x) a.greatest_x = x;
+            if (i == 0 || y > a.greatest_y) a.greatest_y = y;
+        }
+    }
+    return a;
+}
+
+/* ---- the tile. Rows and sides count from 1: right of edge e is 2e-1, left is 2e. */
 
 static inline bool in(uint32_t v, size_t n) { return v >= 1 && v <= n; }
 

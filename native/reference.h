@@ -19,4 +19,12 @@ vumbarete_triplet_answer ref_triplet(const uint8_t *s, size_t n, bool most);
 vumbarete_written_answer ref_write_triplet(uint8_t *row, size_t n, size_t at, uint32_t id, uint32_t tile, uint32_t other, bool most);
 vumbarete_verdict ref_check(const tile32 *t, uint32_t *marks, size_t space);
 vumbarete_steps ref_walk(const tile32 *t, size_t row, uint32_t *out, size_t space);
+
+vumbarete_header_answer ref_header(const uint8_t *file, size_t n);
+size_t ref_find_column(const uint8_t *file, size_t n, const uint8_t *name, size_t m);
+vumbarete_table_answer ref_open(const uint8_t *file, size_t n, const uint8_t *index, size_t m);
+vumbarete_table_answer ref_judge_rows(const uint8_t *file, size_t n, const uint8_t *index, size_t m);
+vumbarete_row_answer ref_row(const uint8_t *file, size_t n, const uint8_t *index, size_t m, size_t row);
+vumbarete_value_answer ref_value(const uint8_t *file, size_t n, const uint8_t *index, size_t m, size_t row, size_t column);
+vumbarete_rectangle_answer ref_rectangle(const uint8_t *file, size_t n, const uint8_t *index, size_t m, size_t row, size_t column);
 #endif

@@ -61,6 +61,106 @@ vumbarete_triplet_answer vumbarete_triplet(const uint8_t *bytes, size_t bytes_le
 vumbarete_written_answer vumbarete_write_triplet(uint8_t *row, size_t row_length, size_t at, uint32_t id, uint32_t tile, uint32_t other,
                                                  bool most_first);
 
+/* ---- headers and tables. A table is a file and its index (empty where all rows have one width). Every question about rows opens the
+ * table first, so that a refusal of the opening is its answer too; `vumbarete_judge_rows` opens it once for all rows. */
+
+typedef struct {
+    uint32_t number;
+    size_t place;
+    uint32_t order; /* 'L' or 'M' */
+    uint32_t start; /* L + 4: where row 1 starts */
+    size_t columns;
+    size_t id;      /* the column named id, from 1 */
+    uint32_t width; /* the one width of all rows, or 0 where a column has `*` or type K */
+} vumbarete_header_answer;
+
+typedef struct {
+    uint32_t number;
+    size_t place;
+    uint32_t order;
+    uint32_t start;
+    size_t columns;
+    size_t id;
+    uint32_t width;
+    size_t rows;
+} vumbarete_table_answer;
+
+typedef struct {
+    uint32_t number;
+    size_t place;
+    size_t start; /* the row's first byte in the file, and the byte after its last */
+    size_t end;
+} vumbarete_row_answer;
+
+/* what a value is */
+enum {
+    VUMBARETE_SHORT = 1,
+    VUMBARETE_SHORT_NULL = 2,
+    VUMBARETE_INTEGER = 3,
+    VUMBARETE_INTEGER_NULL = 4,
+    VUMBARETE_FLOAT = 5,
+    VUMBARETE_FLOAT_NULL = 6,
+    VUMBARETE_DOUBLE = 7,
+    VUMBARETE_DOUBLE_NULL = 8,
+    VUMBARETE_TRIPLET = 9,
+    VUMBARETE_TEXT = 10,
+    VUMBARETE_DATE = 11,
+    VUMBARETE_COORDINATES = 12,
+    VUMBARETE_NULL_FIELD = 13
+};
+
+typedef struct {
+    uint32_t number;
+    size_t place;
+    uint32_t kind;   /* one of the above; the members below that it does not speak of are 0 */
+    int16_t short_;  /* SHORT */
+    int32_t integer; /* INTEGER */
+    uint64_t bits;   /* FLOAT and DOUBLE, also the nulls, which are NaN: the pattern of 4 or 8 bytes */
+    uint32_t id;     /* TRIPLET */
+    uint32_t tile;
+    uint32_t other;
+    size_t start; /* TEXT, DATE, COORDINATES: a part of the file, past the count of a `*` field */
+    size_t bytes;
+} vumbarete_value_answer;
+
+typedef struct {
+    uint32_t number;
+    size_t place;
+    uint32_t width; /* 4: the four floats below (columns of type C and Z); 8: the four doubles (B and Y). The other four are 0.0 */
+    float short_least_x;
+    float short_least_y;
+    float short_greatest_x;
+    float short_greatest_y;
+    double least_x;
+    double least_y;
+    double greatest_x;
+    double greatest_y;
+} vumbarete_rectangle_answer;
+
+/* Judges the header of a table file: 1, 2, 1, 15, 3, 4, 5, 6 in document 01's order. */
+vumbarete_header_answer vumbarete_header(const uint8_t *file, size_t file_length);
+
+/* The column of a name, letters of either case, from 1; 0 where there is none or the header is refused. */
+size_t vumbarete_find_column(const uint8_t *file, size_t file_length, const uint8_t *name, size_t name_length);
+
+/* Opens a table: the header's refusals, then 8 at 0 for a needed index under 8 bytes, 15, 7 or 8. */
+vumbarete_table_answer vumbarete_open(const uint8_t *file, size_t file_length, const uint8_t *index, size_t index_length);
+
+/* Opens a table and judges every row: the refusal of the lowest row that has one (10, 11, 9). */
+vumbarete_table_answer vumbarete_judge_rows(const uint8_t *file, size_t file_length, const uint8_t *index, size_t index_length);
+
+/* Where row i lies, from 1: 13 for no such row, then the row's own refusals. */
+vumbarete_row_answer vumbarete_row(const uint8_t *file, size_t file_length, const uint8_t *index, size_t index_length, size_t row);
+
+/* The value of a column in a row: 13 for no such row, 13 for no such column, then the row's own refusals. */
+vumbarete_value_answer vumbarete_value(const uint8_t *file, size_t file_length, const uint8_t *index, size_t index_length, size_t row,
+                                       size_t column);
+
+/* The least and greatest x and y of the coordinates in a column of a row: 13 for no such row, no such column, or a column of another type
+ * than C, Z, B, Y; the row's own refusals; 12 at the first coordinate, from 1, with x or y not finite, or at 0 for no coordinates. */
+vumbarete_rectangle_answer vumbarete_rectangle(const uint8_t *file, size_t file_length, const uint8_t *index, size_t index_length,
+                                               size_t row, size_t column);
+
 /* ---- the tile: ten columns of numbers */
 
 typedef struct {

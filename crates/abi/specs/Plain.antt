@@ -1,5 +1,5 @@
 -- Answers as plain numbers, for C: number 0 is no refusal; where there is one, every number beside number and place is 0.
-use mathlib.Core.Bool.{Bool, true, false, cond}
+use mathlib.Core.Bool.{Bool, true, false}
 use Prim.Native.Nat.{ℕ}
 use Rattle.number.specs.declared.Order.{Order}
 use Rattle.number.specs.declared.Order.the-variants.{Least, Most}

@@ -1,5 +1,7 @@
 // The operations for callers that are not Rattle: slices and numbers in, answers as plain numbers. In every answer number 0 says that
 // nothing is refused; else number and place are document 01's, and all other numbers of the answer are 0.
+mod tables;
+
 use number::Order;
 use refusal::Refusal;
 use tile::Verdict;
@@ -63,6 +65,67 @@ pub struct PlainWritten {
     pub number: u32,
     pub place: usize,
     pub bytes: usize,
+}
+
+#[repr(C)]
+pub struct PlainHeader {
+    pub number: u32,
+    pub place: usize,
+    pub order: u32,
+    pub start: u32,
+    pub columns: usize,
+    pub id: usize,
+    pub width: u32,
+}
+
+#[repr(C)]
+pub struct PlainTable {
+    pub number: u32,
+    pub place: usize,
+    pub order: u32,
+    pub start: u32,
+    pub columns: usize,
+    pub id: usize,
+    pub width: u32,
+    pub rows: usize,
+}
+
+#[repr(C)]
+pub struct PlainRow {
+    pub number: u32,
+    pub place: usize,
+    pub start: usize,
+    pub end: usize,
+}
+
+#[repr(C)]
+pub struct PlainValue {
+    pub number: u32,
+    pub place: usize,
+    pub kind: u32,
+    pub short: i16,
+    pub integer: i32,
+    pub bits: u64,
+    pub id: u32,
+    pub tile: u32,
+    pub other: u32,
+    pub start: usize,
+    pub bytes: usize,
+}
+
+#[repr(C)]
+pub struct PlainRectangle {
+    pub number: u32,
+    pub place: usize,
+    pub width: u32,
+    pub short_least_x: f32,
+    pub short_least_y: f32,
+    pub short_greatest_x: f32,
+    pub short_greatest_y: f32,
+    pub least_x: f64,
+    pub least_y: f64,
+    pub greatest_x: f64,
+    pub greatest_y: f64,
 }
 
 // The byte order.

@@ -25,7 +25,7 @@ same-length c = search needs
 
 -- src/lib.rt:161:1
 returns : tie.Need-returns
-returns c = (simp (← c .plain-written .ensures, ← c .before .before .before .write .ensures .0, ← c .before .before .before .before .order-for .ensures), simp (← c .before .before .before .before .order-for .ensures, ← c .before .before .before .write .ensures .0, c .before .before .before .write .ensures .1))
+returns c = (simp (← c .plain-written .ensures, ← c .before .before .before .write .ensures .0), simp (← c .before .before .before .before .order-for .ensures, ← c .before .before .before .write .ensures .0, c .before .before .before .write .ensures .1))
 
 pub vumbarete-write-triplet-spec : {M : Type 1} → statement M
 vumbarete-write-triplet-spec =
