@@ -180,7 +180,7 @@ static void right_table(made_table *t) {
     static const char types[] = "TLFRSICZBYDXK";
     char title[96], narrative[16], name[32], about[96], count[8];
     size_t columns = chance(60) ? 60 + below(6) : 1 + below(7), id = below(columns);
-    bool fixed = chance(2);
+    bool fixed = chance(2), faulty = chance(12);
     begin_table(t, "LM\0"[below(3)], printable(title, 0, 80, ";"), printable(narrative, 1, 12, ";"));
     for (size_t k = 0; k < columns; k++) {
         if (k == id) {
@@ -192,12 +192,20 @@ static void right_table(made_table *t) {
         bool several = strchr("TLCZBY", type) != NULL;
         if (several && !fixed && chance(2)) strcpy(count, "*");
         else snprintf(count, sizeof count, "%u", several ? (unsigned)(1 + below(3)) : 1u);
-        snprintf(name, sizeof name, "%c%zu", (char)('a' + below(26)), k);
+        snprintf(name, sizeof name, "%c%zu", (char)('a' + below(26)), chance(40) ? below(k + 1) : k);
         if (chance(3)) printable(name + strlen(name), 0, 24 - strlen(name), ";:,=");
-        add_column(t, name, type, count, "UN"[below(2)], printable(about, 0, 80, ";:,="));
+        if (chance(80)) strcpy(name, "iD");
+        char key = "UN"[below(2)];
+        if (faulty && chance(6)) { /* what the grammar takes and the rules do not */
+            if (chance(3)) key = "PXpu "[below(5)];
+            else if (chance(2)) type = "NMtGi *0"[below(8)];
+            else strcpy(count, chance(2) ? "*" : chance(2) ? "65536" : "2");
+        }
+        add_column(t, name, type, count, key, printable(about, 0, 80, ";:,="));
     }
     end_header(t);
-    size_t rows = chance(3) ? 0 : below(5);
+    size_t rows = chance(8) ? 0 : 1 + below(4);
+    if (faulty) rows = 0;
     if (chance(400)) rows = 300;
     for (size_t i = 1; i <= rows; i++) {
         size_t begin = t->size;
@@ -213,8 +221,26 @@ static void spoil_byte(uint8_t *s, size_t n, bool text) {
     s[below(n)] = text && !chance(6) ? some[below(sizeof some - 1)] : (uint8_t)(chance(2) ? below(3) : draw());
 }
 
+static uint64_t number_at(const uint8_t *p, bool most) {
+    uint64_t v = 0;
+    for (int i = 0; i < 4; i++) v = v << 8 | p[most ? i : 3 - i];
+    return v;
+}
+
 static void spoil_table(made_table *t) {
-    switch (below(12)) {
+    if (t->size < t->start || t->start < 5) return;
+    switch (below(16)) {
+    case 12: case 13: case 14: case 15: /* a row's end is moved, and the next row's start with it */
+        if (t->varies && t->rows > 1) {
+            size_t i = 1 + below(t->rows - 1), by = chance(2) ? 1 + below(4) : (size_t)0 - 1 - below(4);
+            uint8_t *entry_ = t->index + 8 * i;
+            put_number(entry_ + 4, number_at(entry_ + 4, t->most) + by, 4, t->most);
+            put_number(entry_ + 8, number_at(entry_ + 8, t->most) + by, 4, t->most);
+            put_number(entry_ + 12, number_at(entry_ + 12, t->most) - by, 4, t->most);
+        } else {
+            spoil_byte(t->file + t->start, t->size - t->start, false);
+        }
+        break;
     case 0: t->size = below(t->size + 1); break;
     case 1: for (size_t k = 1 + below(6); k > 0; k--) t->file[t->size++] = (uint8_t)draw(); break;
     case 2: case 3: case 4: spoil_byte(t->file + 4, t->start - 4, true); break;
