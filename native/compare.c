@@ -206,7 +206,7 @@ static void right_table(made_table *t) {
     end_header(t);
     size_t rows = chance(8) ? 0 : 1 + below(4);
     if (faulty) rows = 0;
-    if (chance(400)) rows = 300;
+    if (chance(400) && columns < 8 && !faulty) rows = 300;
     for (size_t i = 1; i <= rows; i++) {
         size_t begin = t->size;
         random_fields(t, (id + 1) << 40 | (chance(25) ? below(6) : i));
