@@ -1,4 +1,6 @@
 /* Benchmarks: the archive beside the plain C of reference.c, same input, same run. */
+#define MOST_FILE 80000000
+#include "tables.h"
 #include "tiles.h"
 #include <stdio.h>
 #include <time.h>
@@ -68,7 +70,91 @@ static void tiles(void) {
     }
 }
 
+static made_table big;
+
+/* the edge table of a tile, with triplets and coordinates or without */
+static void edge_table(size_t rows, bool varies) {
+    static const char *links[] = {"right_face", "left_face", "right_edge", "left_edge"};
+    begin_table(&big, 'L', "Edge Primitive Table", "-");
+    add_column(&big, "id", 'I', "1", 'P', "Row Identifier");
+    add_column(&big, "start_node", 'I', "1", 'N', "Start Node");
+    add_column(&big, "end_node", 'I', "1", 'N', "End Node");
+    for (int i = 0; i < 4; i++) add_column(&big, links[i], varies ? 'K' : 'I', "1", 'N', "Link");
+    if (varies) add_column(&big, "coordinates", 'C', "*", 'N', "Coordinates of Edge");
+    end_header(&big);
+    for (size_t i = 1; i <= rows; i++) {
+        size_t begin = big.size;
+        for (int k = 0; k < 3; k++) add_number(&big, k ? i + (size_t)k : i, 4);
+        for (int k = 0; k < 4; k++) {
+            if (varies) add_triplet(&big, (uint32_t)(i * 7 + (size_t)k) % 1000000, k == 1 ? 5 : 0, k == 1 ? (uint32_t)i : 0);
+            else add_number(&big, i + (size_t)k, 4);
+        }
+        if (varies) {
+            size_t points = 2 + i % 5;
+            add_number(&big, points, 4);
+            for (size_t p = 0; p < 2 * points; p++) {
+                float f = (float)(i % 1000) + (float)p;
+                uint32_t b;
+                memcpy(&b, &f, 4);
+                add_number(&big, b, 4);
+            }
+        }
+        end_row(&big, begin);
+    }
+    end_table(&big, false);
+}
+
+#define BIG big.file, big.size, big.index, big.index_size
+
+static volatile size_t sink;
+
+static void headers(void) {
+    printf("\nHeaders\n%-34s %12s %12s %7s\n", "", "ours ns", "C ns", "ratio");
+    for (int i = 0; i < 2; i++) {
+        if (i == 0) {
+            edge_table(1, true);
+        } else {
+            begin_table(&big, 'L', "", "-");
+            add_column(&big, "id", 'I', "1", 'P', "");
+            while (big.size < 32767 + 4 - 60) {
+                big.columns = 1;
+                add_column(&big, "a_column", 'I', "1", 'N', "");
+            }
+            size_t rest = 32767 + 4 - big.size - 1 - strlen("z=I,1,N,,-,-,-,:");
+            char about[80];
+            memset(about, 'x', rest);
+            about[rest] = 0;
+            add_column(&big, "z", 'I', "1", 'N', about);
+            end_header(&big);
+        }
+        int many = i ? 20 : 2000;
+        size_t sum = 0;
+        BEST(50, for (int k = 0; k < many; k++) sum += vumbarete_header(big.file, big.size).number,
+             for (int k = 0; k < many; k++) sum += ref_header(big.file, big.size).number, a, b)
+        sink = sum;
+        char what[64];
+        snprintf(what, sizeof what, "header of %zu bytes, L = %zu", big.start, big.start - 4);
+        printf("%-34s %12.0f %12.0f %7.3f   ours %.0f per second\n", what, a / many * 1e9, b / many * 1e9, a / b, many / a);
+    }
+}
+
+static void rows(void) {
+    printf("\nRows of an edge table, opened once and each judged\n%-34s %12s %12s %7s\n", "", "ours ns", "C ns", "ratio");
+    for (int varies = 0; varies < 2; varies++) {
+        size_t n = 200000, sum = 0;
+        edge_table(n, varies);
+        vumbarete_table_answer v = vumbarete_judge_rows(BIG);
+        if (v.number || v.rows != n) fprintf(stderr, "rows refused %u %zu\n", v.number, v.place), exit(1);
+        BEST(9, sum += vumbarete_judge_rows(BIG).rows, sum += ref_judge_rows(BIG).rows, a, b)
+        sink = sum;
+        printf("%-34s %12.2f %12.2f %7.3f\n", varies ? "I, K and C* columns, with index" : "I columns, one width", a / n * 1e9, b / n * 1e9, a / b);
+    }
+}
+
 int main(void) {
+    headers();
+    rows();
+    printf("\nTiles\n");
     printf("Times per edge; ratio: ours to C at -O3; both: check and all walks; growth: time per edge against the size above.\n");
     tiles();
     return 0;

@@ -512,6 +512,7 @@ static void walk_case(void) {
 static void run(const char *name, void (*one)(void), unsigned long cases, uint64_t seed) {
     unsigned long before = failed;
     entry = name;
+    for (const char *c = name; *c; c++) seed = seed * 31 + (uint64_t)*c * 1000003; /* other cases for each entry point */
     memset(seen, 0, sizeof seen);
     for (unsigned long i = 0; i < cases; i++) {
         case_seed = state = seed + i;

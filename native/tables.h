@@ -4,7 +4,9 @@
 #include "reference.h"
 #include <string.h>
 
+#ifndef MOST_FILE
 #define MOST_FILE 200000
+#endif
 
 typedef struct {
     uint8_t file[MOST_FILE];
