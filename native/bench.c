@@ -151,9 +151,10 @@ static void rows(void) {
     }
 }
 
-int main(void) {
-    headers();
-    rows();
+int main(int argc, char **argv) {
+    (void)argv;
+    if (argc < 2) headers();
+    if (argc < 2) rows();
     printf("\nTiles\n");
     printf("Times per edge; ratio: ours to C at -O3; both: check and all walks; growth: time per edge against the size above.\n");
     tiles();

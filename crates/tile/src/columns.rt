@@ -1,15 +1,16 @@
 // 20 to 25, 27 and 28's range: tests over the rows of the columns, and over the sides.
+use crate::successors;
 use refusal::Refusal;
 use side::Successor;
 ghost use mathlib.Core.Path.{_≡_};
 ghost use mathlib.Core.List.{[], _∷_};
-ghost use Prim.Native.Nat.{ℕ, _≤_};
+ghost use Prim.Native.Nat.{ℕ, _*_, _≤_};
 ghost use lib.ListN.{length};
 ghost use Rattle.laws.specs.Orbit.{entry};
 ghost use Rattle.laws.specs.Lowest.{lowest};
 ghost use Rattle.refusal.specs.Order.{located, firstOf, lowestOf};
 ghost use Rattle.side.specs.Edges.{Edges, edges, edgeCount, sideCount, outside};
-ghost use Rattle.tile.specs.Columns.{mostRows};
+ghost use Rattle.tile.specs.Columns.{Regular};
 ghost use Rattle.tile.specs.Stages.{edgeTests};
 ghost use Rattle.tile.specs.Check.{rowOutside, entryOutside, edgeAway, edgeSideRefusal};
 
@@ -107,8 +108,22 @@ fn judge_side(
     left_edge: &[u32],
     s: usize,
 ) -> Refusal
+    requires { ⌜ Regular (edges (now «start_node») (now «end_node») (now «right_face») (now «left_face») (now «right_edge») (now «left_edge»)) ⌝ }
+    requires { ⌜ s ≤ 2 * length (now «start_node») ⌝ }
     ensures { λ r. ⌜ r ≡ edgeSideRefusal (edges (now («start_node» .entry)) (now («end_node» .entry)) (now («right_face» .entry)) (now («left_face» .entry)) (now («right_edge» .entry)) (now («left_edge» .entry))) s ⌝ }
 {
+    let u = successors::side_after(
+        start_node,
+        end_node,
+        right_face,
+        left_face,
+        right_edge,
+        left_edge,
+        s,
+    );
+    if u != 0 {
+        return refusal::no_refusal();
+    }
     match side::next_side(
         start_node,
         end_node,
@@ -132,7 +147,7 @@ fn judge_sides(
     right_edge: &[u32],
     left_edge: &[u32],
 ) -> Refusal
-    requires { ⌜ length (now «start_node») ≤ mostRows ⌝ }
+    requires { ⌜ Regular (edges (now «start_node») (now «end_node») (now «right_face») (now «left_face») (now «right_edge») (now «left_edge»)) ⌝ }
     ensures { λ r. ⌜ r ≡ lowestOf (edgeSideRefusal (edges (now («start_node» .entry)) (now («end_node» .entry)) (now («right_face» .entry)) (now («left_face» .entry)) (now («right_edge» .entry)) (now («left_edge» .entry)))) (sideCount (edges (now («start_node» .entry)) (now («end_node» .entry)) (now («right_face» .entry)) (now («left_face» .entry)) (now («right_edge» .entry)) (now («left_edge» .entry)))) ⌝ }
 {
     let n = 2 * start_node.len();
@@ -166,7 +181,7 @@ pub(crate) fn judge_edges(
     faces: usize,
     nodes: usize,
 ) -> Refusal
-    requires { ⌜ length (now «start_node») ≤ mostRows ⌝ }
+    requires { ⌜ Regular (edges (now «start_node») (now «end_node») (now «right_face») (now «left_face») (now «right_edge») (now «left_edge»)) ⌝ }
     ensures { λ r. ⌜ r ≡ firstOf (edgeTests (edges (now («start_node» .entry)) (now («end_node» .entry)) (now («right_face» .entry)) (now («left_face» .entry)) (now («right_edge» .entry)) (now («left_edge» .entry))) faces nodes) ⌝ }
 {
     let n = start_node.len();

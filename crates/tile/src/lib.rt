@@ -5,6 +5,7 @@ mod paths;
 mod runs;
 mod sizes;
 mod starts;
+mod successors;
 
 use refusal::Refusal;
 ghost use mathlib.Core.Path.{_≡_};

@@ -1,7 +1,7 @@
 // 26, 30 and 31, with a mark for each side in the lent owner marks: the predecessors counted, and the rings' walks painted.
 use crate::starts;
+use crate::successors;
 use refusal::Refusal;
-use side::Successor;
 ghost use mathlib.Core.Path.{_≡_};
 ghost use Prim.Native.Nat.{ℕ, suc, min, _+_, _*_, _≤_, _<_};
 ghost use lib.Dec.{eqb};
@@ -13,35 +13,9 @@ ghost use Rattle.laws.specs.Marks.{zeros, count, painted};
 ghost use Rattle.refusal.specs.Order.{fine, lowestOf, firstOf};
 ghost use Rattle.side.specs.Edges.{edges, sideCount};
 ghost use Rattle.side.specs.Successor.{after};
-ghost use Rattle.tile.specs.Columns.{mostRows};
+ghost use Rattle.tile.specs.Columns.{mostRows, Regular};
 ghost use Rattle.tile.specs.Check.{edgeSideRefusal};
 ghost use Rattle.tile.specs.Stages.{startOf, lacksStart, ownerTests, ownersPainted};
-
-// The successor of the side s, or 0 where there is none.
-pub(crate) fn side_after(
-    start_node: &[u32],
-    end_node: &[u32],
-    right_face: &[u32],
-    left_face: &[u32],
-    right_edge: &[u32],
-    left_edge: &[u32],
-    s: usize,
-) -> usize
-    ensures { λ r. ⌜ r ≡ after (edges (now («start_node» .entry)) (now («end_node» .entry)) (now («right_face» .entry)) (now («left_face» .entry)) (now («right_edge» .entry)) (now («left_edge» .entry))) s ⌝ }
-{
-    match side::next_side(
-        start_node,
-        end_node,
-        right_face,
-        left_face,
-        right_edge,
-        left_edge,
-        s,
-    ) {
-        Successor::Side(u) => u,
-        Successor::Wrong(_) => 0,
-    }
-}
 
 // Sets the first n marks to zero.
 pub(crate) fn clear(marks: &mut [u32], n: usize)
@@ -87,7 +61,7 @@ fn tally(
     left_edge: &[u32],
     marks: &mut [u32],
 )
-    requires { ⌜ length (now «start_node») ≤ mostRows ⌝ }
+    requires { ⌜ Regular (edges (now «start_node») (now «end_node») (now «right_face») (now «left_face») (now «right_edge») (now «left_edge»)) ⌝ }
     requires { ⌜ lowestOf (edgeSideRefusal (edges (now «start_node») (now «end_node») (now «right_face») (now «left_face») (now «right_edge») (now «left_edge»))) (sideCount (edges (now «start_node») (now «end_node») (now «right_face») (now «left_face») (now «right_edge») (now «left_edge»))) ≡ fine ⌝ }
     requires { ⌜ 2 * length (now «start_node») ≤ length (now marks) ⌝ }
     requires { ⌜ now marks ≡ front zeros (2 * length (now «start_node»)) (now marks) ⌝ }
@@ -96,7 +70,7 @@ fn tally(
     let n = 2 * start_node.len();
     let mut i: usize = 0;
     while i < n {
-        let u = side_after(
+        let u = successors::side_after(
             start_node,
             end_node,
             right_face,
@@ -121,7 +95,7 @@ pub(crate) fn doubled(
     left_edge: &[u32],
     marks: &mut [u32],
 ) -> usize
-    requires { ⌜ length (now «start_node») ≤ mostRows ⌝ }
+    requires { ⌜ Regular (edges (now «start_node») (now «end_node») (now «right_face») (now «left_face») (now «right_edge») (now «left_edge»)) ⌝ }
     requires { ⌜ lowestOf (edgeSideRefusal (edges (now «start_node») (now «end_node») (now «right_face») (now «left_face») (now «right_edge») (now «left_edge»))) (sideCount (edges (now «start_node») (now «end_node») (now «right_face») (now «left_face») (now «right_edge») (now «left_edge»))) ≡ fine ⌝ }
     requires { ⌜ 2 * length (now «start_node») ≤ length (now marks) ⌝ }
     ensures { λ r. ⌜ r ≡ firstDoubled (after (edges (now («start_node» .entry)) (now («end_node» .entry)) (now («right_face» .entry)) (now («left_face» .entry)) (now («right_edge» .entry)) (now («left_edge» .entry)))) (2 * length (now («start_node» .entry))) ⌝ }
@@ -153,7 +127,7 @@ fn paint(
     row: u32,
     marks: &mut [u32],
 )
-    requires { ⌜ length (now «start_node») ≤ mostRows ⌝ }
+    requires { ⌜ Regular (edges (now «start_node») (now «end_node») (now «right_face») (now «left_face») (now «right_edge») (now «left_edge»)) ⌝ }
     requires { ⌜ lowestOf (edgeSideRefusal (edges (now «start_node») (now «end_node») (now «right_face») (now «left_face») (now «right_edge») (now «left_edge»))) (sideCount (edges (now «start_node») (now «end_node») (now «right_face») (now «left_face») (now «right_edge») (now «left_edge»))) ≡ fine ⌝ }
     requires { ⌜ firstDoubled (after (edges (now «start_node») (now «end_node») (now «right_face») (now «left_face») (now «right_edge») (now «left_edge»))) (2 * length (now «start_node»)) ≡ 0 ⌝ }
     requires { ⌜ 2 * length (now «start_node») ≤ length (now marks) ⌝ }
@@ -167,7 +141,7 @@ fn paint(
     let mut s = start;
     let mut k: usize = 0;
     while k < n {
-        s = side_after(
+        s = successors::side_after(
             start_node,
             end_node,
             right_face,
@@ -197,7 +171,7 @@ fn own(
     start_edge: &[u32],
     marks: &mut [u32],
 ) -> usize
-    requires { ⌜ (length (now «start_node») ≤ mostRows) × (length (now «fac_id») ≤ mostRows) ⌝ }
+    requires { ⌜ Regular (edges (now «start_node») (now «end_node») (now «right_face») (now «left_face») (now «right_edge») (now «left_edge»)) × (length (now «fac_id») ≤ mostRows) ⌝ }
     requires { ⌜ lowestOf (edgeSideRefusal (edges (now «start_node») (now «end_node») (now «right_face») (now «left_face») (now «right_edge») (now «left_edge»))) (sideCount (edges (now «start_node») (now «end_node») (now «right_face») (now «left_face») (now «right_edge») (now «left_edge»))) ≡ fine ⌝ }
     requires { ⌜ firstDoubled (after (edges (now «start_node») (now «end_node») (now «right_face») (now «left_face») (now «right_edge») (now «left_edge»))) (2 * length (now «start_node»)) ≡ 0 ⌝ }
     requires { ⌜ 2 * length (now «start_node») ≤ length (now marks) ⌝ }
@@ -242,7 +216,7 @@ pub(crate) fn judge_owners(
     start_edge: &[u32],
     marks: &mut [u32],
 ) -> Refusal
-    requires { ⌜ (length (now «start_node») ≤ mostRows) × (length (now «fac_id») ≤ mostRows) ⌝ }
+    requires { ⌜ Regular (edges (now «start_node») (now «end_node») (now «right_face») (now «left_face») (now «right_edge») (now «left_edge»)) × (length (now «fac_id») ≤ mostRows) ⌝ }
     requires { ⌜ lowestOf (edgeSideRefusal (edges (now «start_node») (now «end_node») (now «right_face») (now «left_face») (now «right_edge») (now «left_edge»))) (sideCount (edges (now «start_node») (now «end_node») (now «right_face») (now «left_face») (now «right_edge») (now «left_edge»))) ≡ fine ⌝ }
     requires { ⌜ firstDoubled (after (edges (now «start_node») (now «end_node») (now «right_face») (now «left_face») (now «right_edge») (now «left_edge»))) (2 * length (now «start_node»)) ≡ 0 ⌝ }
     requires { ⌜ 2 * length (now «start_node») ≤ length (now marks) ⌝ }

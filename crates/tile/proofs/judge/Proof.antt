@@ -9,8 +9,8 @@ use Rattle.refusal.specs.declared.Refusal.{Refusal}
 use Rattle.refusal.specs.Order.{located}
 use Rattle.side.specs.Successor.{after}
 use Rattle.side.specs.Edges.{edges}
-use Rattle.tile.specs.Columns.{Tile, tile, E, F, R, N, sides, mostRows}
-use Rattle.tile.proofs.JudgeLaws.{rows-within, sides-fine, starts-found, at-edges, at-predecessors, at-rings, at-owners, erased, erased-at-once, painted-front, painted-erased, painted-kept}
+use Rattle.tile.specs.Columns.{Tile, tile, E, F, R, N, sides, mostRows, Regular}
+use Rattle.tile.proofs.JudgeLaws.{rows-within, regular, sides-fine, starts-found, at-edges, at-predecessors, at-rings, at-owners, erased, erased-at-once, painted-front, painted-erased, painted-kept}
 use borrow.Author.Needs.{needs}
 use Rattle.tile.proofs.judge.Statement.{statement}
 use Rattle.tile.proofs.judge.Tie as tie
@@ -22,11 +22,14 @@ whole s = tile (edges (s .args .start-node .now) (s .args .end-node .now) (s .ar
 short : (s : tie.Start) → (E (whole s) ≤ mostRows) × (R (whole s) ≤ mostRows)
 short s = rows-within (whole s) (s .pre .0)
 
+even : (s : tie.Start) → Regular (whole s .edg)
+even s = regular (whole s) (s .pre .0)
+
 mul-n : tie.Need-mul-n
 mul-n c = omega (arith, short (c .before .before .before .before .before .before .before .before .before .before .before) .0)
 
 judge-edges-requires : tie.Need-judge-edges-requires
-judge-edges-requires c κs = short (c .before .before .before .before .before .before .before .before .before .before .before) .0
+judge-edges-requires c κs = even (c .before .before .before .before .before .before .before .before .before .before .before)
 
 clear-requires : tie.Need-clear-requires
 clear-requires c κs = (c .before .before .before .before .before .before .before .before .before .before .before .before .before .before .before .pre) .1
@@ -42,7 +45,7 @@ returns c =
 doubled-requires : tie.Need-doubled-requires
 doubled-requires c κs =
     let t = whole (c .before .before .before .before .before .before .before .before .before .before .before .before .before .before .before) in
-    (short (c .before .before .before .before .before .before .before .before .before .before .before .before .before .before .before) .0, (sides-fine (t .edg) (F t) (N t) (sym (ap (λ (r : Refusal). r .number) ((c .before .before .before .judge-edges) .ensures)) ∙ (c .before .if1) .left), (c .before .before .before .before .before .before .before .before .before .before .before .before .before .before .before .pre) .1))
+    (even (c .before .before .before .before .before .before .before .before .before .before .before .before .before .before .before), (sides-fine (t .edg) (F t) (N t) (sym (ap (λ (r : Refusal). r .number) ((c .before .before .before .judge-edges) .ensures)) ∙ (c .before .if1) .left), (c .before .before .before .before .before .before .before .before .before .before .before .before .before .before .before .pre) .1))
 
 refuse-at-requires : tie.Need-refuse-at-requires
 refuse-at-requires c κs = search needs
@@ -79,7 +82,7 @@ returns-3 c =
 judge-owners-requires : tie.Need-judge-owners-requires
 judge-owners-requires c κs =
     let t = whole (c .before .before .before .before .before .before .before .before .before .before .before .before .before .before .before .before .before .before .before .before .before .before .before .before .before) in (
-      (short (c .before .before .before .before .before .before .before .before .before .before .before .before .before .before .before .before .before .before .before .before .before .before .before .before .before) .0, short (c .before .before .before .before .before .before .before .before .before .before .before .before .before .before .before .before .before .before .before .before .before .before .before .before .before) .1),
+      (even (c .before .before .before .before .before .before .before .before .before .before .before .before .before .before .before .before .before .before .before .before .before .before .before .before .before), short (c .before .before .before .before .before .before .before .before .before .before .before .before .before .before .before .before .before .before .before .before .before .before .before .before .before) .1),
       (
         sides-fine (t .edg) (F t) (N t) (sym (ap (λ (r : Refusal). r .number) ((c .before .before .before .before .before .before .before .before .before .before .before .before .before .judge-edges) .ensures)) ∙ (c .before .before .before .before .before .before .before .before .before .before .before .if1) .left),
         (
