@@ -40,6 +40,10 @@ none-is : (n : ℕ) (c : Successor) → Sound n c → sideOf c ≡ 0 → (w : �
 none-is n (Side u) h e = absurd (omega (arith, h .0, e))
 none-is n (Wrong w) h e = (w, refl)
 
+none-refused : (n s : ℕ) (c : Successor) → Sound n c → sideOf c ≡ 0 → refusedSide s c .number ≡ 0 → ⊥
+none-refused n s (Side u) h e z = omega (arith, h .0, e)
+none-refused n s (Wrong w) h e z = omega (arith, h .0, z)
+
 module _ (t : Edges) (s u : ℕ) (e : u ≡ after t s) where
   pub goes-to : (u ≡ 0 → ⊥) → successor t s ≡ Side u
   goes-to z = side-is (successor t s) u e z
@@ -49,3 +53,6 @@ module _ (t : Edges) (s u : ℕ) (e : u ≡ after t s) where
 
   pub side-fine : (u ≡ 0 → ⊥) → fine ≡ edgeSideRefusal t s
   side-fine z = sym (ap (refusedSide s) (goes-to z))
+
+  pub side-refused : u ≡ 0 → edgeSideRefusal t s .number ≡ 0 → ⊥
+  side-refused z = none-refused (sideCount t) s (successor t s) (successor-sound t s) (sym e ∙ z)

@@ -1,4 +1,5 @@
 // 26, 30 and 31, with a mark for each side in the lent owner marks: the predecessors counted, and the rings' walks painted.
+use crate::columns;
 use crate::starts;
 use crate::successors;
 use refusal::Refusal;
@@ -15,7 +16,7 @@ ghost use Rattle.side.specs.Edges.{edges, sideCount};
 ghost use Rattle.side.specs.Successor.{after};
 ghost use Rattle.tile.specs.Columns.{mostRows, Regular};
 ghost use Rattle.tile.specs.Check.{edgeSideRefusal};
-ghost use Rattle.tile.specs.Stages.{startOf, lacksStart, ownerTests, ownersPainted};
+ghost use Rattle.tile.specs.Stages.{tallied, startOf, lacksStart, ownerTests, ownersPainted};
 
 // Sets the first n marks to zero.
 pub(crate) fn clear(marks: &mut [u32], n: usize)
@@ -51,8 +52,9 @@ fn one_more(m: u32) -> u32
     if m < 2 { m + 1 } else { 2 }
 }
 
-// Counts the predecessors of each side, up to two. The marks are zero before.
-fn tally(
+// 23 to 25 at the lowest side that has no successor; where all have one, the predecessors of each side are counted, up to two. The marks
+// are zero before.
+pub(crate) fn tally(
     start_node: &[u32],
     end_node: &[u32],
     right_face: &[u32],
@@ -60,12 +62,12 @@ fn tally(
     right_edge: &[u32],
     left_edge: &[u32],
     marks: &mut [u32],
-)
+) -> Refusal
     requires { ⌜ Regular (edges (now «start_node») (now «end_node») (now «right_face») (now «left_face») (now «right_edge») (now «left_edge»)) ⌝ }
-    requires { ⌜ lowestOf (edgeSideRefusal (edges (now «start_node») (now «end_node») (now «right_face») (now «left_face») (now «right_edge») (now «left_edge»))) (sideCount (edges (now «start_node») (now «end_node») (now «right_face») (now «left_face») (now «right_edge») (now «left_edge»))) ≡ fine ⌝ }
     requires { ⌜ 2 * length (now «start_node») ≤ length (now marks) ⌝ }
     requires { ⌜ now marks ≡ front zeros (2 * length (now «start_node»)) (now marks) ⌝ }
-    ensures { λ _. ⌜ now (marks .exit) ≡ front (count (after (edges (now («start_node» .entry)) (now («end_node» .entry)) (now («right_face» .entry)) (now («left_face» .entry)) (now («right_edge» .entry)) (now («left_edge» .entry)))) (2 * length (now («start_node» .entry)))) (2 * length (now («start_node» .entry))) (now (marks .entry)) ⌝ }
+    ensures { λ r. ⌜ r ≡ lowestOf (edgeSideRefusal (edges (now («start_node» .entry)) (now («end_node» .entry)) (now («right_face» .entry)) (now («left_face» .entry)) (now («right_edge» .entry)) (now («left_edge» .entry)))) (sideCount (edges (now («start_node» .entry)) (now («end_node» .entry)) (now («right_face» .entry)) (now («left_face» .entry)) (now («right_edge» .entry)) (now («left_edge» .entry)))) ⌝ }
+    ensures { λ r. ⌜ now (marks .exit) ≡ tallied (edges (now («start_node» .entry)) (now («end_node» .entry)) (now («right_face» .entry)) (now («left_face» .entry)) (now («right_edge» .entry)) (now («left_edge» .entry))) r (now (marks .entry)) ⌝ }
 {
     let n = 2 * start_node.len();
     let mut i: usize = 0;
@@ -79,13 +81,26 @@ fn tally(
             left_edge,
             i + 1,
         );
+        if u == 0 {
+            clear(marks, n);
+            return columns::judge_side(
+                start_node,
+                end_node,
+                right_face,
+                left_face,
+                right_edge,
+                left_edge,
+                i + 1,
+            );
+        }
         let j = u - 1;
         marks[j] = one_more(marks[j]);
         i += 1;
     }
+    refusal::no_refusal()
 }
 
-// 26: the lowest side with more than one predecessor, or 0. The marks hold the counts after.
+// 26: the lowest side with more than one predecessor, or 0, where the marks hold the counts.
 pub(crate) fn doubled(
     start_node: &[u32],
     end_node: &[u32],
@@ -93,26 +108,14 @@ pub(crate) fn doubled(
     left_face: &[u32],
     right_edge: &[u32],
     left_edge: &[u32],
-    marks: &mut [u32],
+    marks: &[u32],
 ) -> usize
-    requires { ⌜ Regular (edges (now «start_node») (now «end_node») (now «right_face») (now «left_face») (now «right_edge») (now «left_edge»)) ⌝ }
-    requires { ⌜ lowestOf (edgeSideRefusal (edges (now «start_node») (now «end_node») (now «right_face») (now «left_face») (now «right_edge») (now «left_edge»))) (sideCount (edges (now «start_node») (now «end_node») (now «right_face») (now «left_face») (now «right_edge») (now «left_edge»))) ≡ fine ⌝ }
+    requires { ⌜ length (now «start_node») ≤ mostRows ⌝ }
     requires { ⌜ 2 * length (now «start_node») ≤ length (now marks) ⌝ }
+    requires { ⌜ now marks ≡ front (count (after (edges (now «start_node») (now «end_node») (now «right_face») (now «left_face») (now «right_edge») (now «left_edge»))) (2 * length (now «start_node»))) (2 * length (now «start_node»)) (now marks) ⌝ }
     ensures { λ r. ⌜ r ≡ firstDoubled (after (edges (now («start_node» .entry)) (now («end_node» .entry)) (now («right_face» .entry)) (now («left_face» .entry)) (now («right_edge» .entry)) (now («left_edge» .entry)))) (2 * length (now («start_node» .entry))) ⌝ }
-    ensures { λ r. ⌜ now (marks .exit) ≡ front (count (after (edges (now («start_node» .entry)) (now («end_node» .entry)) (now («right_face» .entry)) (now («left_face» .entry)) (now («right_edge» .entry)) (now («left_edge» .entry)))) (2 * length (now («start_node» .entry)))) (2 * length (now («start_node» .entry))) (now (marks .entry)) ⌝ }
 {
-    let n = 2 * start_node.len();
-    clear(marks, n);
-    tally(
-        start_node,
-        end_node,
-        right_face,
-        left_face,
-        right_edge,
-        left_edge,
-        marks,
-    );
-    find(marks, n, 2)
+    find(marks, 2 * start_node.len(), 2)
 }
 
 // Paints the sides of the walk from start with the row, until start returns; none where start is 0.
