@@ -1,145 +1,18 @@
-"""Writes the cases of program header_cases and what it must print for them, from document 01's rules as this script has them.
-The rules are implemented here anew; the header texts of documents 01 and 002 and what is known of them are asserted before
-anything is written."""
-import collections
+"""Writes the cases of program header_cases and what it must print for them, from document 01's rules as header_rules.py has them.
+The header texts of documents 01 and 002 and what is known of them are asserted before anything is written."""
 from casefile import Cases, number, refused
-
-MOST_TEXT, MOST_COLUMNS = 32767, 64
-ORDERS = {"L": "little", "M": "big", ";": "little"}
-
-# --- the grammar: fields one after the other, each with its least and most bytes, the bytes that it takes, and what follows it ---
-
-PRINTABLE = set(range(32, 127))
-UNTIL_SEMICOLON = PRINTABLE - set(b";")
-PLAIN = PRINTABLE - set(b";:,=")
-Field = collections.namedtuple("Field", "least most takes then")
-COLUMN = [Field(1, 24, PLAIN, "="), Field(1, 1, PLAIN, ","), "count", Field(1, 1, PLAIN, ","), Field(0, 80, PLAIN, ",")] + 3 * [Field(1, 12, PLAIN, ",")]
-Column = collections.namedtuple("Column", "start name kind count key description value thematic narrative after")
-
-
-class Refused(Exception):
-    """A refusal: number and place."""
-
-
-class Text:
-    """The header text, read from byte 4 on; a byte that cannot continue is refused with 3, and so is the end at L + 4."""
-
-    def __init__(self, file, length):
-        self.file, self.at, self.end = file, 4, 4 + length
-
-    def next(self):
-        if self.at == self.end:
-            raise Refused(3, self.at)
-        return self.file[self.at]
-
-    def take(self, text):
-        for b in text.encode():
-            if self.next() != b:
-                raise Refused(3, self.at)
-            self.at += 1
-
-    def read(self, field):
-        start = self.at
-        while self.next() in field.takes and self.at - start < field.most:
-            self.at += 1
-        if self.at - start < field.least:
-            raise Refused(3, self.at)
-        word = self.file[start:self.at]
-        self.take(field.then)
-        return word.decode()
-
-    def count(self):
-        if self.next() == ord("*"):
-            self.take("*,")
-            return "*"
-        if self.next() == ord("0"):
-            raise Refused(3, self.at)
-        return self.read(Field(1, 5, set(b"0123456789"), ","))
-
-    def column(self):
-        start = self.at
-        words = [self.count() if f == "count" else self.read(f) for f in COLUMN]
-        self.take(":")
-        return Column(start, *words, self.at)
-
-    def columns(self):
-        """Every column of the text, which is in the grammar, or Refused."""
-        if self.next() != ord(";"):
-            self.at += 1  # the order letter, which byte 4 was tested for
-        self.take(";")
-        self.read(Field(0, 80, UNTIL_SEMICOLON, ";"))
-        self.read(Field(1, 12, UNTIL_SEMICOLON, ";"))
-        found = [self.column()]
-        while self.next() != ord(";"):
-            found.append(self.column())
-        self.at += 1
-        if self.at < self.end:
-            raise Refused(3, self.at)
-        return found
-
-
-# --- the columns' rules ---
-
-WIDTHS = {"T": 1, "L": 1, "F": 4, "R": 8, "S": 2, "I": 4, "C": 8, "Z": 12, "B": 16, "Y": 24, "D": 20, "X": 0, "K": 0}
-MANY = "TLCZBY"  # types that take a number or `*`
-
-
-def sound(c):
-    if c.kind not in WIDTHS or c.key not in "PUN":
-        return False
-    if c.kind in MANY:
-        return c.count == "*" or int(c.count) <= 65535
-    return c.count == "1"
-
-
-def lower(name):
-    return "".join(chr(ord(b) + 32) if "A" <= b <= "Z" else b for b in name)
-
-
-def read(file):
-    """The order letter, L and the columns, or Refused."""
-    if len(file) < 5:
-        raise Refused(1, len(file))
-    letter = chr(file[4])
-    if letter not in ORDERS:
-        raise Refused(2, 4)
-    length = int.from_bytes(file[:4], ORDERS[letter])
-    if length + 4 > len(file):
-        raise Refused(1, len(file))
-    if length > MOST_TEXT:
-        raise Refused(15, 0)
-    if length == 0:
-        raise Refused(3, 4)
-    columns = Text(file, length).columns()
-    for k, c in enumerate(columns, 1):
-        if not sound(c):
-            raise Refused(4, k)
-    if len(columns) > MOST_COLUMNS:
-        raise Refused(5, MOST_COLUMNS + 1)
-    names = [lower(c.name) for c in columns]
-    for k, name in enumerate(names, 1):
-        if name in names[:k - 1]:
-            raise Refused(5, k)
-    keyed = [c for c in columns if c.key == "P"]
-    if len(keyed) != 1 or lower(keyed[0].name) != "id" or keyed[0].kind != "I":
-        raise Refused(6, 0)
-    return letter, length, columns
+from header_rules import ID, MANY, MOST_TEXT, P1, WIDTHS, Refused, column, fixed_bytes, header, lower, read, row_width, standing, table
 
 
 def step(columns, place):
     """What a step says, and the place after it."""
-    for c in columns:
-        if c.start == place:
-            return f"{c.name}={c.kind},{c.count},{c.key},{c.description},{c.value},{c.thematic},{c.narrative}, after {c.after}", c.after
-    return ("done" if place == columns[-1].after else refused(13, place)), place
-
-
-def fixed_bytes(c):
-    return 0 if c.count == "*" or c.kind == "K" else int(c.count) * WIDTHS[c.kind]
-
-
-def row_width(columns):
-    return 0 if any(c.count == "*" or c.kind == "K" for c in columns) else sum(map(fixed_bytes, columns))
+    try:
+        c = standing(columns, place)
+    except Refused as q:
+        return refused(*q.args), place
+    if c is None:
+        return "done", place
+    return f"{c.name}={c.kind},{c.count},{c.key},{c.description},{c.value},{c.thematic},{c.narrative}, after {c.after}", c.after
 
 
 def answer(file, place, name):
@@ -166,13 +39,6 @@ def answer(file, place, name):
 cases, long, longer = Cases("header_cases"), Cases("header_cases", "long"), Cases("header_cases", "longer")
 
 
-def table(text, length=None, order=None, rows=b""):
-    """A table file of this header text, with its own length and order letter unless others are given."""
-    text = text if isinstance(text, bytes) else text.encode()
-    order = order or ORDERS.get(chr(text[0]) if text else "L", "little")
-    return (len(text) if length is None else length).to_bytes(4, order) + text + rows
-
-
 def add(label, file, says=None, place=None, name="ID", to=cases):
     """A table file. `says` is the refusal that it is made for, or what is known of an accepted one: rows from, columns, width."""
     try:
@@ -185,18 +51,6 @@ def add(label, file, says=None, place=None, name="ID", to=cases):
     to.add(label, [file, number(place, 8), name.encode()], answer(file, place, name))
 
 
-def column(name, kind="I", count="1", key="N", description="", value="-", thematic="-", narrative="-"):
-    return f"{name}={kind},{count},{key},{description},{value},{thematic},{narrative},:"
-
-
-ID = column("id", key="P", description="Row Id")
-
-
-def header(*columns, letter="L", description="Test", narrative="-"):
-    return f"{letter};{description};{narrative};{''.join(columns)};"
-
-
-P1 = "L;Ring Table;-;id=I,1,P,Row Id,-,-,-,:fac_id=I,1,N,Face,-,-,-,:start_edge=I,1,N,Edge,-,-,-,:;"
 # Document 002: tables 10 to 13 and 16 to 20, without the footnote marks and without table 16's space.
 VMAP = {
     "10 node feature": "L;Transportation Structures Node Feature Table;-;id=I,1,P,Row Identifier,-,-,-,:f_code=T,5,N,FACC Feature Code,char.vdt,f_code1.nti,-,:"

@@ -1,18 +1,20 @@
 -- "Loaded from tables edg, fac, rng, cnd with columns start_node, end_node; right_face, left_face, right_edge, left_edge (I or K);
 -- ring_ptr; fac_id, start_edge; first_edge (I or K). Others listed are I. ... In that order the ten have places 1 to 10."
-use mathlib.Core.Bool.{Bool, true, false, cond, not}
+use mathlib.Core.Bool.{Bool, true, false, cond}
 use mathlib.Core.List.{List, [], _∷_}
 use Prim.Native.Nat.{ℕ, pred}
-use lib.Dec.{eqb, ltb}
+use lib.Dec.{eqb, ltb, leb}
 use lib.ListN.{getD}
 use Rattle.field.specs.declared.FieldType.{FieldType}
 use Rattle.field.specs.Fields.{isInteger, isTriplet}
+use Rattle.header.specs.declared.Layout.{Layout}
 use Rattle.header.specs.Steps.{columnOf}
 use Rattle.table.specs.declared.Table.{Table}
 use Rattle.table.specs.Opening.{openedOf}
-use Rattle.table.specs.Rows.{columnAt}
+use Rattle.table.specs.Rows.{columnAt, noSuchColumn}
 use Rattle.load.specs.declared.TableName.{TableName}
 use Rattle.load.specs.declared.TableName.the-variants.{Edg, Fac, Rng, Cnd}
+use Rattle.load.specs.declared.Tables.{Tables}
 
 -- the four tables, each with its lent index
 pub record Files : Type 0 where
@@ -40,6 +42,19 @@ indexOf f Fac = f .fax
 indexOf f Rng = f .rnx
 indexOf f Cnd = f .cnx
 
+abbrev pub tableIn : Tables → TableName → Table
+tableIn t Edg = t .edg
+tableIn t Fac = t .fac
+tableIn t Rng = t .rng
+tableIn t Cnd = t .cnd
+
+-- the tables as their opening left them; `most` is the most rows that the caller takes
+abbrev pub tableOf : Files → ℕ → TableName → Table
+tableOf f most n = openedOf (fileOf f n) (indexOf f n) most .table
+
+unfoldable pub tablesOf : Files → ℕ → Tables
+tablesOf f most = record { edg = tableOf f most Edg; fac = tableOf f most Fac; rng = tableOf f most Rng; cnd = tableOf f most Cnd }
+
 -- ---- the ten columns
 
 -- start_node, end_node, right_face, left_face, right_edge, left_edge, ring_ptr, fac_id, start_edge, first_edge
@@ -61,34 +76,54 @@ abbrev pub nameAt : ℕ → List ℕ
 nameAt k = getD names (pred k) []
 
 -- the table of a place: six of edg, one of fac, two of rng, one of cnd
-abbrev pub tables : List TableName
-tables = Edg ∷ Edg ∷ Edg ∷ Edg ∷ Edg ∷ Edg ∷ Fac ∷ Rng ∷ Rng ∷ Cnd ∷ []
-
-abbrev pub tableAt : ℕ → TableName
-tableAt k = getD tables (pred k) Edg
+unfoldable pub tableAt : ℕ → TableName
+tableAt k = cond (leb k 6) Edg (cond (eqb k 7) Fac (cond (leb k 9) Rng Cnd))
 
 -- "(I or K)": places 3 to 6 and 10
-abbrev pub tripletsToo : List Bool
-tripletsToo = false ∷ false ∷ true ∷ true ∷ true ∷ true ∷ false ∷ false ∷ false ∷ true ∷ []
+unfoldable pub tripletsToo : ℕ → Bool
+tripletsToo k = cond (ltb k 3) false (cond (leb k 6) true (eqb k 10))
 
-abbrev pub typeFits : ℕ → FieldType → Bool
-typeFits k t = cond (isInteger t) true (cond (getD tripletsToo (pred k) false) (isTriplet t) false)
+unfoldable pub typeFits : ℕ → FieldType → Bool
+typeFits k t = cond (isInteger t) true (cond (tripletsToo k) (isTriplet t) false)
 
--- ---- in opened tables
+-- a column that the table has and whose type fits place k, or 0
+unfoldable pub fitting : Layout → ℕ → ℕ → ℕ
+fitting l k c = cond (noSuchColumn l c) 0 (cond (typeFits k (columnAt l c .kind)) c 0)
 
--- the table as its opening left it; `most` is the most rows that the caller takes
-abbrev pub tableOf : Files → ℕ → TableName → Table
-tableOf f most n = openedOf (fileOf f n) (indexOf f n) most .table
+-- "Names match in either case.": the column of place k in its table, or 0 where it is missing or of a wrong type
+unfoldable pub columnFor : List ℕ → Table → ℕ → ℕ
+columnFor file t k = fitting (t .layout) k (columnOf file (nameAt k))
 
-abbrev pub rowsOf : Files → ℕ → TableName → ℕ
-rowsOf f most n = tableOf f most n .rows
+-- the ten columns, by their places
+unfoldable pub columnsFor : List ℕ → List ℕ → List ℕ → List ℕ → Tables → List ℕ
+columnsFor edg fac rng cnd t =
+    columnFor edg (t .edg) 1
+    ∷ columnFor edg (t .edg) 2
+    ∷ columnFor edg (t .edg) 3
+    ∷ columnFor edg (t .edg) 4
+    ∷ columnFor edg (t .edg) 5
+    ∷ columnFor edg (t .edg) 6
+    ∷ columnFor fac (t .fac) 7
+    ∷ columnFor rng (t .rng) 8
+    ∷ columnFor rng (t .rng) 9
+    ∷ columnFor cnd (t .cnd) 10
+    ∷ []
 
--- "Names match in either case.": the column of place k in its table, or 0
-abbrev pub columnOfPlace : Files → ℕ → ℕ
-columnOfPlace f k = columnOf (fileOf f (tableAt k)) (nameAt k)
+-- what stands at place k of ten
+abbrev pub atPlace : List ℕ → ℕ → ℕ
+atPlace l k = getD l (pred k) 0
 
--- "17: tile column missing or of wrong type"
-unfoldable pub columnWrong : Files → ℕ → ℕ → Bool
-columnWrong f most k =
-    cond (eqb (columnOfPlace f k) 0) true
-    (not (typeFits k (columnAt (tableOf f most (tableAt k) .layout) (columnOfPlace f k) .kind)))
+-- the rows of each place's table
+unfoldable pub rowsFor : Tables → List ℕ
+rowsFor t =
+    t .edg .rows
+    ∷ t .edg .rows
+    ∷ t .edg .rows
+    ∷ t .edg .rows
+    ∷ t .edg .rows
+    ∷ t .edg .rows
+    ∷ t .fac .rows
+    ∷ t .rng .rows
+    ∷ t .rng .rows
+    ∷ t .cnd .rows
+    ∷ []

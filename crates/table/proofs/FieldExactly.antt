@@ -33,7 +33,7 @@ use Rattle.header.specs.LayoutWords.{layoutAt}
 use Rattle.table.specs.declared.Reach.{Reach}
 use Rattle.table.specs.declared.Reach.the-variants.{At, Short, Cut}
 use Rattle.table.specs.Rows.{plainEnd, starEnd, pastTriplet, tripletEnd, fieldEnd, onward, columnAt, reach, placeOf, placeOfColumn}
-use Rattle.table.specs.Words.{TripletEnds, StarEnds, FixedEnds, FieldEnds, Fields}
+use Rattle.table.specs.Words.{TripletEnds, StarEnds, FixedEnds, FieldEnds, Fields, Begun}
 use Rattle.table.proofs.WalkLaws.{reach-within}
 
 pub triplet-kind : (t : FieldType) → (isTriplet t ≡ true) ↔ (t ≡ type.Triplet)
@@ -137,9 +137,15 @@ module _ (s : List ℕ) (l : Layout) (start end : ℕ) (first : start ≤ end) (
   pub walk-fields : reach s l start end (l .columns) ≡ At end → Fields s l start end (placeOfColumn s l start end)
   walk-fields e = record { first = refl; next = field-at (l .columns) end e; last = ap placeOf e }
 
+  pub begun-walk : (place : ℕ → ℕ) (m : ℕ) → Begun s l start end place m → (k : ℕ) → k ≤ m → reach s l start end k ≡ At (place (suc k))
+  begun-walk place m f zero i = ap At (sym (f .first))
+  begun-walk place m f (suc k) i = next-field k (place (suc k)) (place (suc (suc k))) (begun-walk place m f k (omega arith)) .1 (f .next (suc k) (omega arith, i))
+
   pub fields-walk : (place : ℕ → ℕ) → Fields s l start end place → (k : ℕ) → k ≤ l .columns → reach s l start end k ≡ At (place (suc k))
-  fields-walk place f zero i = ap At (sym (f .first))
-  fields-walk place f (suc k) i = next-field k (place (suc k)) (place (suc (suc k))) (fields-walk place f k (omega arith)) .1 (f .next (suc k) (omega arith, i))
+  fields-walk place f = begun-walk place (l .columns) (record { first = f .first; next = f .next })
+
+  pub walk-begun : (n p : ℕ) → reach s l start end n ≡ At p → Begun s l start end (placeOfColumn s l start end) n
+  walk-begun n p e = record { first = refl; next = field-at n p e }
 
   pub fields-end : (place : ℕ → ℕ) → Fields s l start end place → reach s l start end (l .columns) ≡ At end
   fields-end place f = fields-walk place f (l .columns) (omega arith) ∙ ap At (f .last)

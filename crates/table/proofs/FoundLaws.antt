@@ -10,7 +10,7 @@ use Rattle.header.specs.declared.Layout.{Layout}
 use Rattle.header.specs.Judge.{mostColumns}
 use Rattle.table.specs.declared.Places.{Places}
 use Rattle.table.specs.declared.Found.{Found}
-use Rattle.table.specs.Rows.{columnsOf, noSuchColumn, reach, placeOfColumn, walked, slotsFor, keptFor, idRefusal, usedUp, offsetPlace, columnPlace, fieldsRefusal, foundOf}
+use Rattle.table.specs.Rows.{columnsOf, noSuchColumn, outside, placeFound, reach, placeOfColumn, walked, slotsFor, keptFor, idRefusal, usedUp, offsetPlace, columnPlace, fieldsRefusal, foundOf}
 use Rattle.table.proofs.RowLaws.{such}
 use Rattle.table.proofs.SlotLaws.{kept-for, slot-alone-k, slot-alone-id}
 
@@ -52,3 +52,9 @@ module _ (s : List ℕ) (l : Layout) (start end i k : ℕ) (there-id : noSuchCol
   by-offset p q x z f g u r m n =
       let t = ne-eqb (l .width) 0 z in
       rw t (λ h. record { refusal = (m ∙ u ∙ ap (λ (p : ℕ). idRefusal s l p i) f) h; place = (n ∙ g) h })
+
+-- where fields can be looked for, the column is found at its place
+pub place-found : (s : List ℕ) (l : Layout) (start end k : ℕ) → outside s start end ≡ false → noSuchColumn l (l .id) ≡ false → noSuchColumn l k ≡ false
+    → columnPlace s l start end k ≡ placeFound s l start end k
+unfolding placeFound
+place-found s l start end k a b c = simp (a, b, c)

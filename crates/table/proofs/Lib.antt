@@ -13,3 +13,4 @@ pub mod ColumnBytes
 pub mod ValueOfRow
 pub mod SignedLaws
 pub mod ValueLaws
+pub mod RowRefusedExactly

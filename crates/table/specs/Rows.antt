@@ -167,6 +167,11 @@ foundOf s l start end i k = record { refusal = fieldsRefusal s l start end i; pl
 abbrev pub placeRefusal : List ℕ → Layout → ℕ → ℕ → ℕ → Refusal
 placeRefusal s l start end i = cond (outside s start end) (refusal 10 i) (refusedIf (noSuchColumn l (l .id)) 9 i)
 
+-- where column k starts in a row; 0 where no fields can be looked for, or there is no such column
+unfoldable pub placeFound : List ℕ → Layout → ℕ → ℕ → ℕ → ℕ
+placeFound s l start end k =
+    cond (outside s start end) 0 (cond (noSuchColumn l (l .id)) 0 (cond (noSuchColumn l k) 0 (columnPlace s l start end k)))
+
 -- THE JUDGEMENT of row i that lies from start to end
 unfoldable pub rowRefusal : List ℕ → Layout → ℕ → ℕ → ℕ → Refusal
 rowRefusal s l start end i = first (placeRefusal s l start end i) (fieldsRefusal s l start end i)

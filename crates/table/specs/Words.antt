@@ -12,7 +12,7 @@ use Rattle.number.specs.Bytes.{number}
 use Rattle.field.specs.declared.FieldType.the-variants.{Triplet}
 use Rattle.field.specs.Fields.{widthOf}
 use Rattle.triplet.specs.declared.Ids.{Ids}
-use Rattle.triplet.specs.Words.{BeginsWith}
+use Rattle.triplet.specs.Words.{BeginsWith, BadAt}
 use Rattle.grammar.specs.Words.{Reading}
 use Rattle.header.specs.declared.ColumnLayout.{ColumnLayout}
 use Rattle.header.specs.declared.Layout.{Layout}
@@ -182,6 +182,55 @@ pub record RowRight (s : List ℕ) (l : Layout) (start end i : ℕ) : Type 0 whe
   pub place : ℕ → ℕ
   pub fields : Fields s l start end place
   pub id : number (l .order) s (place (l .id)) 4 ≡ i
+
+-- ---- when a row is refused: "Within a row, 10 and 11 by column order (a cut triplet is 11), then 9."
+
+-- the fields of the columns 1..m follow one another from the row's start
+pub record Begun (s : List ℕ) (l : Layout) (start end : ℕ) (place : ℕ → ℕ) (m : ℕ) : Type 0 where
+  pub first : place 1 ≡ start
+  pub next : Each m (λ k. FieldEnds (l .order) s end (layoutAt l k) (place k) (place (suc k)))
+
+-- "10: row too short": the field of a column ends nowhere in the row
+pub record FieldMissing (s : List ℕ) (l : Layout) (start end i n p : ℕ) : Type 0 where
+  pub number-10 : n ≡ 10
+  pub at-row : p ≡ i
+  pub place : ℕ → ℕ
+  pub column : ℕ
+  pub within : In (l .columns) column
+  pub begun : Begun s l start end place (pred column)
+  pub kind : layoutAt l column .kind ≡ Triplet → ⊥
+  pub no-end : (q : ℕ) → FieldEnds (l .order) s end (layoutAt l column) (place column) q → ⊥
+
+-- "11: type byte or part bad, or cut short": the row goes on with no triplet, and is bad at p, "counted from the type byte as 0"
+pub record TripletBad (s : List ℕ) (l : Layout) (start end n p : ℕ) : Type 0 where
+  pub number-11 : n ≡ 11
+  pub place : ℕ → ℕ
+  pub column : ℕ
+  pub within : In (l .columns) column
+  pub begun : Begun s l start end place (pred column)
+  pub kind : layoutAt l column .kind ≡ Triplet
+  pub bad : BadAt (l .order) (take (end - place column) (drop (place column) s)) p
+
+-- "10: .. or not used up"
+pub record NotUsedUp (s : List ℕ) (l : Layout) (start end i n p : ℕ) : Type 0 where
+  pub number-10 : n ≡ 10
+  pub at-row : p ≡ i
+  pub place : ℕ → ℕ
+  pub begun : Begun s l start end place (l .columns)
+  pub left : place (suc (l .columns)) ≡ end → ⊥
+
+-- "9: id in row wrong"
+pub record IdWrong (s : List ℕ) (l : Layout) (start end i n p : ℕ) : Type 0 where
+  pub number-9 : n ≡ 9
+  pub at-row : p ≡ i
+  pub place : ℕ → ℕ
+  pub fields : Fields s l start end place
+  pub wrong : number (l .order) s (place (l .id)) 4 ≡ i → ⊥
+
+-- A ROW i from start to end IS REFUSED WITH n AT p
+abbrev pub RowRefused : List ℕ → Layout → ℕ → ℕ → ℕ → ℕ → ℕ → Type 0
+RowRefused s l start end i n p =
+    FieldMissing s l start end i n p ⊎ (TripletBad s l start end n p ⊎ (NotUsedUp s l start end i n p ⊎ IdWrong s l start end i n p))
 
 -- ---- a value and the bytes of its row
 

@@ -11,7 +11,7 @@ ghost use Rattle.header.specs.Judge.{mostColumns};
 ghost use Rattle.header.specs.Layouts.{blankColumn};
 ghost use Rattle.field.specs.Nulls.{shortHalf, integerHalf, signed};
 ghost use Rattle.table.specs.Opening.{mostRows, endAt};
-ghost use Rattle.table.specs.Rows.{columnsOf, noSuch, noSuchColumn, outside, columnAt, boundOf, plainEnd, starEnd, tripletEnd, fieldEnd, walked, slotsFor, keptFor, placesOf, foundOf, idRefusal, usedUp, columnPlace, offsetPlace, fieldsRefusal, placeRefusal, rowRefusal, unlessRefused, rowOf};
+ghost use Rattle.table.specs.Rows.{columnsOf, noSuch, noSuchColumn, outside, columnAt, boundOf, plainEnd, starEnd, tripletEnd, fieldEnd, walked, slotsFor, keptFor, placesOf, foundOf, idRefusal, usedUp, columnPlace, offsetPlace, fieldsRefusal, placeRefusal, placeFound, rowRefusal, unlessRefused, rowOf};
 ghost use Rattle.table.specs.Values.{shortOf, integerOf, floatOf, doubleOf, elementsStart, elementsBytes, tripletOfRead, shown, inRow, valueOf, shownStart, shownBytes, partOf};
 
 use field::FieldType;
@@ -214,6 +214,13 @@ fn count_columns(layout: Layout) -> usize
     lesser(layout.columns, MOST_COLUMNS)
 }
 
+// Whether a layout has no column of this number.
+pub fn no_such_column(layout: Layout, column: usize) -> bool
+    ensures { λ r. ⌜ r ≡ noSuchColumn layout column ⌝ }
+{
+    no_such(count_columns(layout), column)
+}
+
 // One walk over a whole row that keeps the places of the columns that `slots` asks for.
 pub fn find_places(file: &[u8], layout: Layout, start: usize, end: usize, slots: [u8; 64]) -> Places
     ensures { λ r. ⌜ r ≡ placesOf (now (file .entry)) layout start end slots ⌝ }
@@ -333,6 +340,23 @@ fn find_column(file: &[u8], layout: Layout, start: usize, end: usize, row: usize
         return find_by_walk(file, layout, start, end, row, column);
     }
     find_by_offset(file, layout, start, end, row, column)
+}
+
+// Where a column starts in a row; 0 where no fields can be looked for, or there is no such column.
+pub fn column_place(file: &[u8], layout: Layout, start: usize, end: usize, column: usize) -> usize
+    ensures { λ r. ⌜ r ≡ placeFound (now (file .entry)) layout start end column ⌝ }
+{
+    if lies_outside(file, start, end) {
+        return 0;
+    }
+    if no_such_column(layout, layout.id) {
+        return 0;
+    }
+    if no_such_column(layout, column) {
+        return 0;
+    }
+    let found = find_column(file, layout, start, end, 0, column);
+    found.place
 }
 
 // A row in which no fields can be looked for: 10 outside the file, 9 where the layout has no id column.
@@ -567,7 +591,7 @@ pub fn read_value(file: &[u8], index: &[u8], table: Table, row: usize, column: u
 // ---- parts shown
 
 // A part of what is lent, cut where it ends.
-fn part<'a>(file: &'a [u8], start: usize, bytes: usize) -> &'a [u8]
+pub fn part<'a>(file: &'a [u8], start: usize, bytes: usize) -> &'a [u8]
     ensures { λ r. ⌜ now r ≡ take bytes (drop start (now (file .entry))) ⌝ }
 {
     if file.len() <= start {

@@ -1,0 +1,87 @@
+use Rattle.load.specs.Cells.{slotsOf}
+use native.Mathlib.Omega.{arith}
+use borrow.Author.Needs.{needs}
+use Rattle.load.proofs.cells.edge_slots.Statement.{statement}
+use Rattle.load.proofs.cells.edge_slots.Tie as tie
+
+array-read-slots : tie.Need-array-read-slots
+array-read-slots c = search needs
+
+sub-slots : tie.Need-sub-slots
+sub-slots c = omega (arith, (c .pre) 1 (omega arith) (omega arith) .0)
+
+array-write-slots : tie.Need-array-write-slots
+array-write-slots c = omega (arith, (c .pre) 1 (omega arith) (omega arith) .0, (c .pre) 1 (omega arith) (omega arith) .1)
+
+array-read-slots-2 : tie.Need-array-read-slots-2
+array-read-slots-2 c = search needs
+
+sub-slots-2 : tie.Need-sub-slots-2
+sub-slots-2 c = omega (arith, (c .pre) 2 (omega arith) (omega arith) .0)
+
+array-write-slots-2 : tie.Need-array-write-slots-2
+array-write-slots-2 c = omega (arith, (c .pre) 2 (omega arith) (omega arith) .0, (c .pre) 2 (omega arith) (omega arith) .1)
+
+array-read-slots-3 : tie.Need-array-read-slots-3
+array-read-slots-3 c = search needs
+
+sub-slots-3 : tie.Need-sub-slots-3
+sub-slots-3 c = omega (arith, (c .pre) 3 (omega arith) (omega arith) .0)
+
+array-write-slots-3 : tie.Need-array-write-slots-3
+array-write-slots-3 c = omega (arith, (c .pre) 3 (omega arith) (omega arith) .0, (c .pre) 3 (omega arith) (omega arith) .1)
+
+array-read-slots-4 : tie.Need-array-read-slots-4
+array-read-slots-4 c = search needs
+
+sub-slots-4 : tie.Need-sub-slots-4
+sub-slots-4 c = omega (arith, (c .pre) 4 (omega arith) (omega arith) .0)
+
+array-write-slots-4 : tie.Need-array-write-slots-4
+array-write-slots-4 c = omega (arith, (c .pre) 4 (omega arith) (omega arith) .0, (c .pre) 4 (omega arith) (omega arith) .1)
+
+array-read-slots-5 : tie.Need-array-read-slots-5
+array-read-slots-5 c = search needs
+
+sub-slots-5 : tie.Need-sub-slots-5
+sub-slots-5 c = omega (arith, (c .pre) 5 (omega arith) (omega arith) .0)
+
+array-write-slots-5 : tie.Need-array-write-slots-5
+array-write-slots-5 c = omega (arith, (c .pre) 5 (omega arith) (omega arith) .0, (c .pre) 5 (omega arith) (omega arith) .1)
+
+array-read-slots-6 : tie.Need-array-read-slots-6
+array-read-slots-6 c = search needs
+
+sub-slots-6 : tie.Need-sub-slots-6
+sub-slots-6 c = omega (arith, (c .pre) 6 (omega arith) (omega arith) .0)
+
+array-write-slots-6 : tie.Need-array-write-slots-6
+array-write-slots-6 c = omega (arith, (c .pre) 6 (omega arith) (omega arith) .0, (c .pre) 6 (omega arith) (omega arith) .1)
+
+returns : tie.Need-returns
+unfolding slotsOf
+returns c = search needs
+
+pub edge-slots-spec : {M : Type 1} → statement M
+edge-slots-spec =
+    tie.close
+    (tie.spec
+    array-read-slots
+    sub-slots
+    array-write-slots
+    array-read-slots-2
+    sub-slots-2
+    array-write-slots-2
+    array-read-slots-3
+    sub-slots-3
+    array-write-slots-3
+    array-read-slots-4
+    sub-slots-4
+    array-write-slots-4
+    array-read-slots-5
+    sub-slots-5
+    array-write-slots-5
+    array-read-slots-6
+    sub-slots-6
+    array-write-slots-6
+    returns)

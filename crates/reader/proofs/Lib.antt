@@ -1,0 +1,4 @@
+pub mod ReaderInOrder
+pub mod Calls
+pub mod Held
+pub mod Lent

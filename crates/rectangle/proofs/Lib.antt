@@ -1,0 +1,2 @@
+pub mod RectangleExactly
+pub mod CoordinatesCounted
