@@ -46,6 +46,72 @@ static size_t walks_ref(const made_tile *m, uint32_t *out, size_t space) {
         if (t2_ - t1_ < b) b = t2_ - t1_;                                                                                                   \
     }
 
+static made_table big;
+static volatile size_t sink;
+
+/* the four tables of a tile: edg with triplets, coordinates and an index, the others of one width */
+static made_table *four[4];
+
+static void tile_tables(const made_tile *m) {
+    static const char *names[10] = {"start_node", "end_node", "right_face", "left_face", "right_edge", "left_edge", "ring_ptr", "fac_id", "start_edge", "first_edge"};
+    static const int first[5] = {START_NODE, RING_PTR, FAC_ID, FIRST_EDGE, 10};
+    for (int k = 0; k < 4; k++) {
+        if (!four[k]) four[k] = malloc(sizeof *four[k]);
+        made_table *t = four[k];
+        begin_table(t, 'L', "A table of a tile", "-");
+        add_column(t, "id", 'I', "1", 'P', "Row Identifier");
+        for (int p = first[k]; p < first[k + 1]; p++) add_column(t, names[p], p >= RIGHT_FACE && p <= LEFT_EDGE ? 'K' : 'I', "1", 'N', "A column");
+        if (k == 0) add_column(t, "coordinates", 'C', "*", 'N', "Coordinates of Edge");
+        end_header(t);
+        for (size_t i = 1; i <= m->length[first[k]]; i++) {
+            size_t begin = t->size;
+            add_number(t, i, 4);
+            for (int p = first[k]; p < first[k + 1]; p++) {
+                uint32_t v = m->column[p][i - 1];
+                if (p >= RIGHT_FACE && p <= LEFT_EDGE) add_triplet(t, v, 0, 0);
+                else add_number(t, v, 4);
+            }
+            if (k == 0) {
+                add_number(t, 2, 4);
+                for (int c = 0; c < 4; c++) add_number(t, 0x3f800000 + i, 4);
+            }
+            end_row(t, begin);
+        }
+        end_table(t, true);
+    }
+}
+
+static void loads(void) {
+    static const size_t side[][2] = {{22, 22}, {70, 70}, {223, 223}, {707, 706}};
+    double last = 0;
+    printf("\nLoading a tile from its four tables, times per edge\n%-10s %10s %10s %7s %8s\n", "edges", "ours ns", "C ns", "ratio", "growth");
+    for (int i = 0; i < 4; i++) {
+        made_tile m;
+        uint32_t *c[10];
+        table_files files[4];
+        grid_tile(&m, side[i][0], side[i][1]);
+        tile_tables(&m);
+        for (int p = 0; p < 10; p++) c[p] = malloc(m.length[p] * 4);
+        for (int k = 0; k < 4; k++) files[k] = (table_files){four[k]->file, four[k]->index, four[k]->size, four[k]->index_size};
+#define FOUR(k) four[k]->file, four[k]->size, four[k]->index, four[k]->index_size
+#define LOAD                                                                                                                                \
+    vumbarete_load(FOUR(0), FOUR(1), FOUR(2), FOUR(3), 1000000, c[0], m.length[0], c[1], m.length[1], c[2], m.length[2], c[3], m.length[3], \
+                   c[4], m.length[4], c[5], m.length[5], c[6], m.length[6], c[7], m.length[7], c[8], m.length[8], c[9], m.length[9])
+        vumbarete_loaded v = LOAD;
+        size_t E = m.length[0], sum = 0;
+        if (v.number || v.edges != E) fprintf(stderr, "load refused %u %zu\n", v.number, v.place), exit(1);
+        for (int p = 0; p < 10; p++)
+            if (memcmp(c[p], m.column[p], m.length[p] * 4)) fprintf(stderr, "load differs\n"), exit(1);
+        int turns = E < 50000 ? 50 : E < 500000 ? 9 : 3;
+        BEST(turns, sum += LOAD.edges, sum += ref_load(files, 1000000, c, m.length).edges, a, b)
+        sink = sum;
+        printf("%-10zu %10.2f %10.2f %7.3f %8.3f\n", E, a / E * 1e9, b / E * 1e9, a / b, last ? a / E / last : 1.0);
+        last = a / E;
+        for (int p = 0; p < 10; p++) free(c[p]);
+        drop_tile(&m);
+    }
+}
+
 static void tiles(void) {
     static const size_t side[][2] = {{22, 22}, {70, 70}, {223, 223}, {707, 706}};
     double last = 0;
@@ -70,7 +136,7 @@ static void tiles(void) {
     }
 }
 
-static made_table big;
+
 
 /* the edge table of a tile, with triplets and coordinates or without */
 static void edge_table(size_t rows, bool varies) {
@@ -106,7 +172,6 @@ static void edge_table(size_t rows, bool varies) {
 
 #define BIG big.file, big.size, big.index, big.index_size
 
-static volatile size_t sink;
 
 static void headers(void) {
     printf("\nHeaders\n%-34s %12s %12s %7s\n", "", "ours ns", "C ns", "ratio");
@@ -151,12 +216,11 @@ static void rows(void) {
     }
 }
 
-int main(int argc, char **argv) {
-    (void)argv;
-    if (argc < 2) headers();
-    if (argc < 2) rows();
-    printf("\nTiles\n");
-    printf("Times per edge; ratio: ours to C at -O3; both: check and all walks; growth: time per edge against the size above.\n");
+int main(void) {
+    headers();
+    rows();
+    loads();
+    printf("\nChecking and walking, times per edge; both: check and all walks\n");
     tiles();
     return 0;
 }

@@ -509,6 +509,100 @@ static void walk_case(void) {
     free(ours), free(theirs), drop_tile(&m);
 }
 
+/* ---- loading */
+
+static made_table four[4];
+
+/* the tables of a tile, their columns in any order among others */
+static void tile_tables(const made_tile *m) {
+    static const char *names[10] = {"start_node", "end_node", "right_face", "left_face", "right_edge", "left_edge", "ring_ptr", "fac_id", "start_edge", "first_edge"};
+    static const int first[5] = {START_NODE, RING_PTR, FAC_ID, FIRST_EDGE, 10};
+    static const char types[] = "TLFRSICZBYDX";
+    for (int k = 0; k < 4; k++) {
+        made_table *t = &four[k];
+        int source[24], n = 0; /* of each column: 10 the id, a place from 0, or 11 for any other */
+        source[n++] = 10;
+        for (int p = first[k]; p < first[k + 1]; p++) source[n++] = p;
+        for (size_t other = chance(2) ? 0 : below(4); other > 0; other--) source[n++] = 11;
+        for (int i = n - 1; i > 0; i--) {
+            int j = (int)below((size_t)i + 1), v = source[i];
+            source[i] = source[j], source[j] = v;
+        }
+        begin_table(t, "LM\0"[below(3)], "", "-");
+        for (int i = 0; i < n; i++) {
+            char name[32];
+            if (source[i] == 10) {
+                add_column(t, "id", 'I', "1", 'P', "");
+            } else if (source[i] == 11) {
+                char type = types[below(12)];
+                bool several = strchr("TLCZBY", type) != NULL;
+                snprintf(name, sizeof name, "other%d", i);
+                add_column(t, name, type, several && chance(4) ? "*" : "1", 'N', "");
+            } else {
+                bool triplet = (source[i] >= RIGHT_FACE && source[i] <= LEFT_EDGE) || source[i] == FIRST_EDGE ? chance(3) : chance(100);
+                strcpy(name, names[source[i]]);
+                if (chance(3)) name[0] = (char)(name[0] - 32);
+                if (chance(80)) name[below(strlen(name))] ^= 1;
+                add_column(t, name, triplet ? 'K' : chance(120) ? 'S' : 'I', "1", 'N', "");
+            }
+        }
+        end_header(t);
+        size_t rows = m->length[first[k]];
+        if (chance(30)) rows = 0;
+        for (size_t row = 1; row <= rows; row++) {
+            size_t begin = t->size, columns = t->columns;
+            for (size_t i = 0; i < columns; i++) {
+                if (source[i] == 10) {
+                    add_number(t, row, 4);
+                } else if (source[i] == 11 || t->type[i] == 'S') { /* one column of any kind, by the other maker */
+                    made_table *one = &made;
+                    one->size = 0, one->most = t->most, one->columns = 1, one->type[0] = t->type[i], one->count[0] = t->count[i];
+                    random_fields(one, 0);
+                    add_bytes(t, one->file, one->size);
+                } else {
+                    uint32_t v = row <= m->length[source[i]] ? m->column[source[i]][row - 1] : 0;
+                    if (t->type[i] == 'K') add_triplet(t, v & 0x7fffffff, id_number() & 0x7fffffff, id_number() & 0x7fffffff);
+                    else add_number(t, v ? v : chance(2) ? 0 : 0x80000000 | draw(), 4);
+                }
+            }
+            end_row(t, begin);
+        }
+        end_table(t, chance(2));
+    }
+}
+
+#define FOUR(k) four[k].file, four[k].size, four[k].index, four[k].index_size
+
+static void load_case(void) {
+    made_tile m;
+    uint32_t *ours[10], *theirs[10];
+    size_t space[10];
+    table_files files[4];
+    if (chance(20)) some_tile(&m);
+    else rotation_tile(&m, chance(100) ? 1 + below(200) : 1 + below(5));
+    tile_tables(&m);
+    for (size_t k = chance(2) ? 0 : 1 + (chance(4) ? 1 : 0); k > 0; k--) spoil_table(&four[below(4)]);
+    for (int k = 0; k < 4; k++) files[k] = (table_files){four[k].file, four[k].index, four[k].size, four[k].index_size};
+    for (int p = 0; p < 10; p++) {
+        space[p] = m.length[p] + below(3);
+        if (chance(60)) space[p] = below(space[p] + 1);
+        two_buffers(&ours[p], &theirs[p], space[p] + 4);
+    }
+    size_t most = chance(10) ? below(8) : 1000000 + below(2);
+    vumbarete_loaded a = vumbarete_load(FOUR(0), FOUR(1), FOUR(2), FOUR(3), most, ours[0], space[0], ours[1], space[1], ours[2], space[2], ours[3],
+                                        space[3], ours[4], space[4], ours[5], space[5], ours[6], space[6], ours[7], space[7], ours[8], space[8],
+                                        ours[9], space[9]);
+    vumbarete_loaded b = ref_load(files, most, theirs, space);
+    note(a.number);
+    bool same = SAME_REFUSAL(a, b) && SAME(a, b, table) && SAME(a, b, edges) && SAME(a, b, faces) && SAME(a, b, rings) && SAME(a, b, nodes);
+    for (int p = 0; p < 10; p++) {
+        same = same && memcmp(ours[p], theirs[p], (space[p] + 4) * 4) == 0;
+        free(ours[p]), free(theirs[p]);
+    }
+    judge(same);
+    drop_tile(&m);
+}
+
 static void run(const char *name, void (*one)(void), unsigned long cases, uint64_t seed) {
     unsigned long before = failed;
     entry = name;
@@ -538,6 +632,7 @@ int main(int argc, char **argv) {
     run("row", row_case, cases, seed);
     run("value", value_case, cases, seed);
     run("rectangle", rectangle_case, cases, seed);
+    run("load", load_case, cases, seed);
     run("check", check_case, cases, seed);
     run("walk", walk_case, cases, seed);
     printf("%lu passed, %lu failed\n", passed, failed);

@@ -486,6 +486,59 @@ vumbarete_rectangle_answer ref_rectangle(const uint8_t *file, size_t n, const ui
     return a;
 }
 
+/* ---- loading */
+
+static const struct {
+    const char *name;
+    int table; /* 0 edg, 1 fac, 2 rng, 3 cnd */
+    bool triplet_too;
+} place[10] = {{"start_node", 0, false}, {"end_node", 0, false}, {"right_face", 0, true}, {"left_face", 0, true}, {"right_edge", 0, true},
+               {"left_edge", 0, true},   {"ring_ptr", 1, false}, {"fac_id", 2, false},    {"start_edge", 2, false}, {"first_edge", 3, true}};
+
+static vumbarete_loaded not_loaded(refusal q, int table) {
+    return (vumbarete_loaded){.number = q.number, .place = q.place, .table = (uint32_t)table + 1};
+}
+
+vumbarete_loaded ref_load(const table_files files[4], size_t most, uint32_t *const column[10], const size_t space[10]) {
+    ref_table t[4];
+    ref_fields r;
+    size_t at[10];
+    for (int k = 0; k < 4; k++) {
+        refusal q = open_of(files[k].file, files[k].size, files[k].index, files[k].index_size, most, &t[k]);
+        if (q.number) return not_loaded(q, k);
+    }
+    for (size_t p = 0; p < 10; p++) {
+        const ref_table *x = &t[place[p].table];
+        at[p] = ref_find_column(x->file, x->size, (const uint8_t *)place[p].name, strlen(place[p].name));
+        uint8_t type = at[p] ? x->layout.column[at[p] - 1].type : 0;
+        if (type != 'I' && !(type == 'K' && place[p].triplet_too)) return not_loaded((refusal){17, p + 1}, place[p].table);
+    }
+    for (int k = 1; k <= 2; k++)
+        if (t[k].rows == 0) return not_loaded((refusal){15, 0}, k);
+    for (size_t p = 0; p < 10; p++)
+        if (space[p] < t[place[p].table].rows) return not_loaded((refusal){14, t[place[p].table].rows}, place[p].table);
+    for (int k = 0; k < 4; k++)
+        for (size_t i = 1; i <= t[k].rows; i++) {
+            refusal q = fields_of(&t[k], i, &r);
+            if (q.number) return not_loaded(q, k);
+        }
+    for (int k = 0; k < 4; k++)
+        for (size_t i = 1; i <= t[k].rows; i++) {
+            fields_of(&t[k], i, &r);
+            for (size_t p = 0; p < 10; p++) {
+                if (place[p].table != k) continue;
+                size_t from = r.place[at[p] - 1];
+                if (t[k].layout.column[at[p] - 1].type == 'K') {
+                    column[p][i - 1] = ref_triplet(t[k].file + from, r.end - from, t[k].layout.most).id;
+                } else {
+                    int32_t v = (int32_t)(uint32_t)number(t[k].file + from, 4, t[k].layout.most);
+                    column[p][i - 1] = v < 0 ? 0 : (uint32_t)v;
+                }
+            }
+        }
+    return (vumbarete_loaded){0, 0, 0, t[0].rows, t[1].rows, t[2].rows, t[3].rows};
+}
+
 /* ---- the tile. Rows and sides count from 1: right of edge e is 2e-1, left is 2e. */
 
 static inline bool in(uint32_t v, size_t n) { return v >= 1 && v <= n; }

@@ -20,6 +20,13 @@ vumbarete_written_answer ref_write_triplet(uint8_t *row, size_t n, size_t at, ui
 vumbarete_verdict ref_check(const tile32 *t, uint32_t *marks, size_t space);
 vumbarete_steps ref_walk(const tile32 *t, size_t row, uint32_t *out, size_t space);
 
+/* edg, fac, rng, cnd, each with its index */
+typedef struct {
+    const uint8_t *file, *index;
+    size_t size, index_size;
+} table_files;
+
+vumbarete_loaded ref_load(const table_files files[4], size_t most, uint32_t *const column[10], const size_t space[10]);
 vumbarete_header_answer ref_header(const uint8_t *file, size_t n);
 size_t ref_find_column(const uint8_t *file, size_t n, const uint8_t *name, size_t m);
 vumbarete_table_answer ref_open(const uint8_t *file, size_t n, const uint8_t *index, size_t m);

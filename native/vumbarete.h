@@ -174,6 +174,29 @@ typedef struct {
     size_t steps; /* the successor moves until the start side returns: how many sides were written */
 } vumbarete_steps;
 
+typedef struct {
+    uint32_t number;
+    size_t place;
+    uint32_t table; /* the table that a refusal speaks of: 1 edg, 2 fac, 3 rng, 4 cnd; 0 where nothing is refused */
+    size_t edges;   /* the rows of the four tables: how many elements of its columns were written */
+    size_t faces;
+    size_t rings;
+    size_t nodes;
+} vumbarete_loaded;
+
+/* Loads a tile from four tables and their indexes, of which the caller takes at most `most` rows each (and never over 1,000,000): opens
+ * them in turn; then 17 by place (start_node 1 to first_edge 10); 15 for no face, for no ring; 14 by place with the length that is needed;
+ * then the rows, table by table; and only then writes each column's numbers from its first element on. From a triplet the id is taken;
+ * absent, null and negative numbers are 0. Elements past the rows are unchanged. */
+vumbarete_loaded vumbarete_load(const uint8_t *edg, size_t edg_length, const uint8_t *edx, size_t edx_length, const uint8_t *fac,
+                                size_t fac_length, const uint8_t *fax, size_t fax_length, const uint8_t *rng, size_t rng_length,
+                                const uint8_t *rnx, size_t rnx_length, const uint8_t *cnd, size_t cnd_length, const uint8_t *cnx,
+                                size_t cnx_length, size_t most, uint32_t *start_node, size_t start_nodes, uint32_t *end_node,
+                                size_t end_nodes, uint32_t *right_face, size_t right_faces, uint32_t *left_face, size_t left_faces,
+                                uint32_t *right_edge, size_t right_edges, uint32_t *left_edge, size_t left_edges, uint32_t *ring_ptr,
+                                size_t ring_ptrs, uint32_t *fac_id, size_t fac_ids, uint32_t *start_edge, size_t start_edges,
+                                uint32_t *first_edge, size_t first_edges);
+
 /* Checks a tile: accepted, or the first of document 01's tests that fails, at its lowest row or side. On acceptance the first 2E marks
  * hold the ring row of each side, side 1 first; refusals 20 to 31 set them to zero; every other refusal changes none. Marks beyond
  * 2E are never changed. */

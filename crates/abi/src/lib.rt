@@ -1,5 +1,6 @@
 // The operations for callers that are not Rattle: slices and numbers in, answers as plain numbers. In every answer number 0 says that
 // nothing is refused; else number and place are document 01's, and all other numbers of the answer are 0.
+mod loads;
 mod tables;
 
 use number::Order;
@@ -65,6 +66,17 @@ pub struct PlainWritten {
     pub number: u32,
     pub place: usize,
     pub bytes: usize,
+}
+
+#[repr(C)]
+pub struct PlainLoaded {
+    pub number: u32,
+    pub place: usize,
+    pub table: u32,
+    pub edges: usize,
+    pub faces: usize,
+    pub rings: usize,
+    pub nodes: usize,
 }
 
 #[repr(C)]
