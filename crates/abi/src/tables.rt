@@ -1,11 +1,11 @@
 // Headers, tables, rows, values and rectangles for callers that are not Rattle. Each question opens its table first.
-use bounds::Rectangle32;
-use bounds::Rectangle64;
 use crate::PlainHeader;
 use crate::PlainRectangle;
 use crate::PlainRow;
 use crate::PlainTable;
 use crate::PlainValue;
+use bounds::Rectangle32;
+use bounds::Rectangle64;
 use header::Answer;
 use header::Header;
 use number::Order;
@@ -45,16 +45,41 @@ fn plain_header(h: Header) -> PlainHeader
         Answer::Accepted => {
             let l = h.layout;
             let order = l.order;
-            PlainHeader { number: 0, place: 0, order: letter_of(order), start: l.start, columns: l.columns, id: l.id, width: l.width }
+            PlainHeader {
+                number: 0,
+                place: 0,
+                order: letter_of(order),
+                start: l.start,
+                columns: l.columns,
+                id: l.id,
+                width: l.width,
+            }
         }
-        Answer::Refused(q) => PlainHeader { number: q.number, place: q.place, order: 0, start: 0, columns: 0, id: 0, width: 0 },
+        Answer::Refused(q) => PlainHeader {
+            number: q.number,
+            place: q.place,
+            order: 0,
+            start: 0,
+            columns: 0,
+            id: 0,
+            width: 0,
+        },
     }
 }
 
 fn refused_table(q: Refusal) -> PlainTable
     ensures { λ r. ⌜ r ≡ opened (answers.Refused q) noTable ⌝ }
 {
-    PlainTable { number: q.number, place: q.place, order: 0, start: 0, columns: 0, id: 0, width: 0, rows: 0 }
+    PlainTable {
+        number: q.number,
+        place: q.place,
+        order: 0,
+        start: 0,
+        columns: 0,
+        id: 0,
+        width: 0,
+        rows: 0,
+    }
 }
 
 fn plain_table(o: Opened) -> PlainTable
@@ -66,7 +91,16 @@ fn plain_table(o: Opened) -> PlainTable
             let t = o.table;
             let l = t.layout;
             let order = l.order;
-            PlainTable { number: 0, place: 0, order: letter_of(order), start: l.start, columns: l.columns, id: l.id, width: l.width, rows: t.rows }
+            PlainTable {
+                number: 0,
+                place: 0,
+                order: letter_of(order),
+                start: l.start,
+                columns: l.columns,
+                id: l.id,
+                width: l.width,
+                rows: t.rows,
+            }
         }
         Answer::Refused(q) => refused_table(q),
     }
@@ -102,41 +136,123 @@ fn plain_row(row: Row) -> PlainRow
     ensures { λ r. ⌜ r ≡ plainRow row ⌝ }
 {
     match row {
-        Row::Between(start, end) => PlainRow { number: 0, place: 0, start: start, end: end },
-        Row::Refused(q) => PlainRow { number: q.number, place: q.place, start: 0, end: 0 },
+        Row::Between(start, end) => PlainRow {
+            number: 0,
+            place: 0,
+            start: start,
+            end: end,
+        },
+        Row::Refused(q) => PlainRow {
+            number: q.number,
+            place: q.place,
+            start: 0,
+            end: 0,
+        },
     }
 }
 
 fn pattern_of(kind: u32, b: u64) -> PlainValue
     ensures { λ r. ⌜ r ≡ pattern kind b ⌝ }
 {
-    PlainValue { number: 0, place: 0, kind: kind, short: 0, integer: 0, bits: b, id: 0, tile: 0, other: 0, start: 0, bytes: 0 }
+    PlainValue {
+        number: 0,
+        place: 0,
+        kind: kind,
+        short: 0,
+        integer: 0,
+        bits: b,
+        id: 0,
+        tile: 0,
+        other: 0,
+        start: 0,
+        bytes: 0,
+    }
 }
 
 fn part_of(kind: u32, p: usize, n: usize) -> PlainValue
     ensures { λ r. ⌜ r ≡ partOf kind p n ⌝ }
 {
-    PlainValue { number: 0, place: 0, kind: kind, short: 0, integer: 0, bits: 0, id: 0, tile: 0, other: 0, start: p, bytes: n }
+    PlainValue {
+        number: 0,
+        place: 0,
+        kind: kind,
+        short: 0,
+        integer: 0,
+        bits: 0,
+        id: 0,
+        tile: 0,
+        other: 0,
+        start: p,
+        bytes: n,
+    }
 }
 
 fn plain_value(v: Value) -> PlainValue
     ensures { λ r. ⌜ r ≡ plainValue v ⌝ }
 {
     match v {
-        Value::Short(n) => PlainValue { number: 0, place: 0, kind: 1, short: n, integer: 0, bits: 0, id: 0, tile: 0, other: 0, start: 0, bytes: 0 },
+        Value::Short(n) => PlainValue {
+            number: 0,
+            place: 0,
+            kind: 1,
+            short: n,
+            integer: 0,
+            bits: 0,
+            id: 0,
+            tile: 0,
+            other: 0,
+            start: 0,
+            bytes: 0,
+        },
         Value::ShortNull => part_of(2, 0, 0),
-        Value::Integer(n) => PlainValue { number: 0, place: 0, kind: 3, short: 0, integer: n, bits: 0, id: 0, tile: 0, other: 0, start: 0, bytes: 0 },
+        Value::Integer(n) => PlainValue {
+            number: 0,
+            place: 0,
+            kind: 3,
+            short: 0,
+            integer: n,
+            bits: 0,
+            id: 0,
+            tile: 0,
+            other: 0,
+            start: 0,
+            bytes: 0,
+        },
         Value::IntegerNull => part_of(4, 0, 0),
         Value::Float(b) => pattern_of(5, b as u64),
         Value::FloatNull(b) => pattern_of(6, b as u64),
         Value::Double(b) => pattern_of(7, b),
         Value::DoubleNull(b) => pattern_of(8, b),
-        Value::Triplet(ids) => PlainValue { number: 0, place: 0, kind: 9, short: 0, integer: 0, bits: 0, id: ids.id, tile: ids.tile, other: ids.other, start: 0, bytes: 0 },
+        Value::Triplet(ids) => PlainValue {
+            number: 0,
+            place: 0,
+            kind: 9,
+            short: 0,
+            integer: 0,
+            bits: 0,
+            id: ids.id,
+            tile: ids.tile,
+            other: ids.other,
+            start: 0,
+            bytes: 0,
+        },
         Value::Text(p, n) => part_of(10, p, n),
         Value::Date(p, n) => part_of(11, p, n),
         Value::Coordinates(p, n) => part_of(12, p, n),
         Value::Empty => part_of(13, 0, 0),
-        Value::Refused(q) => PlainValue { number: q.number, place: q.place, kind: 0, short: 0, integer: 0, bits: 0, id: 0, tile: 0, other: 0, start: 0, bytes: 0 },
+        Value::Refused(q) => PlainValue {
+            number: q.number,
+            place: q.place,
+            kind: 0,
+            short: 0,
+            integer: 0,
+            bits: 0,
+            id: 0,
+            tile: 0,
+            other: 0,
+            start: 0,
+            bytes: 0,
+        },
     }
 }
 
@@ -270,7 +386,12 @@ pub extern "C" fn vumbarete_judge_rows(file: &[u8], index: &[u8]) -> PlainTable
 
 // The value of a column in row i of a table.
 #[no_mangle]
-pub extern "C" fn vumbarete_value(file: &[u8], index: &[u8], row: usize, column: usize) -> PlainValue
+pub extern "C" fn vumbarete_value(
+    file: &[u8],
+    index: &[u8],
+    row: usize,
+    column: usize,
+) -> PlainValue
     ensures { λ r. ⌜ r ≡ plainValue (valueIn (now (file .entry)) (now (index .entry)) row column) ⌝ }
 {
     let opened = table::opening::open_table(file, index);
@@ -286,7 +407,12 @@ pub extern "C" fn vumbarete_value(file: &[u8], index: &[u8], row: usize, column:
 
 // The rectangle of the coordinates in a column of row i of a table.
 #[no_mangle]
-pub extern "C" fn vumbarete_rectangle(file: &[u8], index: &[u8], row: usize, column: usize) -> PlainRectangle
+pub extern "C" fn vumbarete_rectangle(
+    file: &[u8],
+    index: &[u8],
+    row: usize,
+    column: usize,
+) -> PlainRectangle
     ensures { λ r. ⌜ r ≡ plainRectangle (rectangleIn (now (file .entry)) (now (index .entry)) row column) ⌝ }
 {
     let opened = table::opening::open_table(file, index);

@@ -21,7 +21,15 @@ fn of_side(right: &[u32], left: &[u32], s: usize) -> u32
 }
 
 // Of the edge k, with these nodes and faces, the side that leaves from the node with the face; 0 where it is not one side.
-fn choose_side(start_node: u32, end_node: u32, right_face: u32, left_face: u32, k: usize, node: u32, face: u32) -> usize
+fn choose_side(
+    start_node: u32,
+    end_node: u32,
+    right_face: u32,
+    left_face: u32,
+    k: usize,
+    node: u32,
+    face: u32,
+) -> usize
     requires { ⌜ (0 < k) × (k < 4294967296) ⌝ }
     ensures { λ r. ⌜ r ≡ sideOf (leaving «start_node» «end_node» «right_face» «left_face» k node face) ⌝ }
 {
@@ -74,7 +82,15 @@ fn linked_side(
     if start_node.len() < e {
         return 0;
     }
-    choose_side(start_node[e - 1], end_node[e - 1], right_face[e - 1], left_face[e - 1], e, node, face)
+    choose_side(
+        start_node[e - 1],
+        end_node[e - 1],
+        right_face[e - 1],
+        left_face[e - 1],
+        e,
+        node,
+        face,
+    )
 }
 
 // The successor of the side s, or 0 where there is none.
@@ -97,5 +113,15 @@ pub(crate) fn side_after(
     let link = of_side(right_edge, left_edge, s);
     let node = of_side(end_node, start_node, s);
     let face = of_side(right_face, left_face, s);
-    linked_side(start_node, end_node, right_face, left_face, right_edge, left_edge, link, node, face)
+    linked_side(
+        start_node,
+        end_node,
+        right_face,
+        left_face,
+        right_edge,
+        left_edge,
+        link,
+        node,
+        face,
+    )
 }

@@ -58,18 +58,37 @@ same-length-10 c = search needs
 
 -- src/loads.rt:59:1
 returns : tie.Need-returns
-returns c =
-    ((c .plain-loaded) .ensures ∙ ap plainLoaded ((c .before .before .before .before .before .before .before .before .before .before .before .before .before .before .before .before .before .before .before .before .before .load) .ensures .0),
-    (rw ((c .before .before .before .before .before .before .before .before .before .before .before .before .before .before .before .before .before .before .before .before .before .load) .ensures .0) at ((c .before .before .before .before .before .before .before .before .before .before .before .before .before .before .before .before .before .before .before .before .before .load) .ensures .1 .0),
-    (rw ((c .before .before .before .before .before .before .before .before .before .before .before .before .before .before .before .before .before .before .before .before .before .load) .ensures .0) at ((c .before .before .before .before .before .before .before .before .before .before .before .before .before .before .before .before .before .before .before .before .before .load) .ensures .1 .1 .0),
-    (rw ((c .before .before .before .before .before .before .before .before .before .before .before .before .before .before .before .before .before .before .before .before .before .load) .ensures .0) at ((c .before .before .before .before .before .before .before .before .before .before .before .before .before .before .before .before .before .before .before .before .before .load) .ensures .1 .1 .1 .0),
-    (rw ((c .before .before .before .before .before .before .before .before .before .before .before .before .before .before .before .before .before .before .before .before .before .load) .ensures .0) at ((c .before .before .before .before .before .before .before .before .before .before .before .before .before .before .before .before .before .before .before .before .before .load) .ensures .1 .1 .1 .1 .0),
-    (rw ((c .before .before .before .before .before .before .before .before .before .before .before .before .before .before .before .before .before .before .before .before .before .load) .ensures .0) at ((c .before .before .before .before .before .before .before .before .before .before .before .before .before .before .before .before .before .before .before .before .before .load) .ensures .1 .1 .1 .1 .1 .0),
-    (rw ((c .before .before .before .before .before .before .before .before .before .before .before .before .before .before .before .before .before .before .before .before .before .load) .ensures .0) at ((c .before .before .before .before .before .before .before .before .before .before .before .before .before .before .before .before .before .before .before .before .before .load) .ensures .1 .1 .1 .1 .1 .1 .0),
-    (rw ((c .before .before .before .before .before .before .before .before .before .before .before .before .before .before .before .before .before .before .before .before .before .load) .ensures .0) at ((c .before .before .before .before .before .before .before .before .before .before .before .before .before .before .before .before .before .before .before .before .before .load) .ensures .1 .1 .1 .1 .1 .1 .1 .0),
-    (rw ((c .before .before .before .before .before .before .before .before .before .before .before .before .before .before .before .before .before .before .before .before .before .load) .ensures .0) at ((c .before .before .before .before .before .before .before .before .before .before .before .before .before .before .before .before .before .before .before .before .before .load) .ensures .1 .1 .1 .1 .1 .1 .1 .1 .0),
-    (rw ((c .before .before .before .before .before .before .before .before .before .before .before .before .before .before .before .before .before .before .before .before .before .load) .ensures .0) at ((c .before .before .before .before .before .before .before .before .before .before .before .before .before .before .before .before .before .before .before .before .before .load) .ensures .1 .1 .1 .1 .1 .1 .1 .1 .1 .0),
-    rw ((c .before .before .before .before .before .before .before .before .before .before .before .before .before .before .before .before .before .before .before .before .before .load) .ensures .0) at ((c .before .before .before .before .before .before .before .before .before .before .before .before .before .before .before .before .before .before .before .before .before .load) .ensures .1 .1 .1 .1 .1 .1 .1 .1 .1 .1)))))))))))
+returns c = (
+  (c .plain-loaded) .ensures ∙ ap plainLoaded ((c .before .before .before .before .before .before .before .before .before .before .before .before .before .before .before .before .before .before .before .before .before .load) .ensures .0),
+  (
+    rw ((c .before .before .before .before .before .before .before .before .before .before .before .before .before .before .before .before .before .before .before .before .before .load) .ensures .0) at ((c .before .before .before .before .before .before .before .before .before .before .before .before .before .before .before .before .before .before .before .before .before .load) .ensures .1 .0),
+    (
+      rw ((c .before .before .before .before .before .before .before .before .before .before .before .before .before .before .before .before .before .before .before .before .before .load) .ensures .0) at ((c .before .before .before .before .before .before .before .before .before .before .before .before .before .before .before .before .before .before .before .before .before .load) .ensures .1 .1 .0),
+      (
+        rw ((c .before .before .before .before .before .before .before .before .before .before .before .before .before .before .before .before .before .before .before .before .before .load) .ensures .0) at ((c .before .before .before .before .before .before .before .before .before .before .before .before .before .before .before .before .before .before .before .before .before .load) .ensures .1 .1 .1 .0),
+        (
+          rw ((c .before .before .before .before .before .before .before .before .before .before .before .before .before .before .before .before .before .before .before .before .before .load) .ensures .0) at ((c .before .before .before .before .before .before .before .before .before .before .before .before .before .before .before .before .before .before .before .before .before .load) .ensures .1 .1 .1 .1 .0),
+          (
+            rw ((c .before .before .before .before .before .before .before .before .before .before .before .before .before .before .before .before .before .before .before .before .before .load) .ensures .0) at ((c .before .before .before .before .before .before .before .before .before .before .before .before .before .before .before .before .before .before .before .before .before .load) .ensures .1 .1 .1 .1 .1 .0),
+            (
+              rw ((c .before .before .before .before .before .before .before .before .before .before .before .before .before .before .before .before .before .before .before .before .before .load) .ensures .0) at ((c .before .before .before .before .before .before .before .before .before .before .before .before .before .before .before .before .before .before .before .before .before .load) .ensures .1 .1 .1 .1 .1 .1 .0),
+              (
+                rw ((c .before .before .before .before .before .before .before .before .before .before .before .before .before .before .before .before .before .before .before .before .before .load) .ensures .0) at ((c .before .before .before .before .before .before .before .before .before .before .before .before .before .before .before .before .before .before .before .before .before .load) .ensures .1 .1 .1 .1 .1 .1 .1 .0),
+                (
+                  rw ((c .before .before .before .before .before .before .before .before .before .before .before .before .before .before .before .before .before .before .before .before .before .load) .ensures .0) at ((c .before .before .before .before .before .before .before .before .before .before .before .before .before .before .before .before .before .before .before .before .before .load) .ensures .1 .1 .1 .1 .1 .1 .1 .1 .0),
+                  (
+                    rw ((c .before .before .before .before .before .before .before .before .before .before .before .before .before .before .before .before .before .before .before .before .before .load) .ensures .0) at ((c .before .before .before .before .before .before .before .before .before .before .before .before .before .before .before .before .before .before .before .before .before .load) .ensures .1 .1 .1 .1 .1 .1 .1 .1 .1 .0),
+                    rw ((c .before .before .before .before .before .before .before .before .before .before .before .before .before .before .before .before .before .before .before .before .before .load) .ensures .0) at ((c .before .before .before .before .before .before .before .before .before .before .before .before .before .before .before .before .before .before .before .before .before .load) .ensures .1 .1 .1 .1 .1 .1 .1 .1 .1 .1),
+                  ),
+                ),
+              ),
+            ),
+          ),
+        ),
+      ),
+    ),
+  ),
+)
 
 pub vumbarete-load-spec : {M : Type 1} → statement M
 vumbarete-load-spec =

@@ -23,11 +23,10 @@ refuse-at-requires c κs = search needs
 
 returns : tie.Need-returns
 unfolding edgeTests
-returns c =
-    (
-      at-first _ _ _ _ ((c .before .before .refuse-at) .result) ((c .before .before .refuse-at) .ensures ∙ ap (located 20) ((c .before .before .before .bad-row) .ensures)) ((c .if1) .taken),
-      tally-zero (columns (c .before .before .before .before .before .before .before .before .before .before .before)) ((c .before .before .before .before .before .before .before .before .before .before .before) .args .marks .now) ((c .before .before .refuse-at) .result) ((c .if1) .taken) ((c .before .before .before .before .before .before .before .before .before .before .before) .pre .1 .1),
-    )
+returns c = (
+  at-first _ _ _ _ ((c .before .before .refuse-at) .result) ((c .before .before .refuse-at) .ensures ∙ ap (located 20) ((c .before .before .before .bad-row) .ensures)) ((c .if1) .taken),
+  tally-zero (columns (c .before .before .before .before .before .before .before .before .before .before .before)) ((c .before .before .before .before .before .before .before .before .before .before .before) .args .marks .now) ((c .before .before .refuse-at) .result) ((c .if1) .taken) ((c .before .before .before .before .before .before .before .before .before .before .before) .pre .1 .1),
+)
 
 bad-row-requires-2 : tie.Need-bad-row-requires-2
 bad-row-requires-2 c κs = search needs
@@ -37,12 +36,11 @@ refuse-at-requires-2 c κs = search needs
 
 returns-2 : tie.Need-returns-2
 unfolding edgeTests
-returns-2 c =
-    (
-      at-second _ _ _ _ ((c .before .before .before .before .before .before .refuse-at) .result) ((c .before .before .before .before .before .before .refuse-at) .ensures ∙ ap (located 20) ((c .before .before .before .before .before .before .before .bad-row) .ensures)) ((c .before .before .before .before .if1) .left)
+returns-2 c = (
+  at-second _ _ _ _ ((c .before .before .before .before .before .before .refuse-at) .result) ((c .before .before .before .before .before .before .refuse-at) .ensures ∙ ap (located 20) ((c .before .before .before .before .before .before .before .bad-row) .ensures)) ((c .before .before .before .before .if1) .left)
       ((c .before .before .refuse-at2) .result) ((c .before .before .refuse-at2) .ensures ∙ ap (located 21) ((c .before .before .before .bad-row2) .ensures)) ((c .if2) .taken),
-      tally-zero (columns (c .before .before .before .before .before .before .before .before .before .before .before .before .before .before .before)) ((c .before .before .before .before .before .before .before .before .before .before .before .before .before .before .before) .args .marks .now) ((c .before .before .refuse-at2) .result) ((c .if2) .taken) ((c .before .before .before .before .before .before .before .before .before .before .before .before .before .before .before) .pre .1 .1),
-    )
+  tally-zero (columns (c .before .before .before .before .before .before .before .before .before .before .before .before .before .before .before)) ((c .before .before .before .before .before .before .before .before .before .before .before .before .before .before .before) .args .marks .now) ((c .before .before .refuse-at2) .result) ((c .if2) .taken) ((c .before .before .before .before .before .before .before .before .before .before .before .before .before .before .before) .pre .1 .1),
+)
 
 bad-row-requires-3 : tie.Need-bad-row-requires-3
 bad-row-requires-3 c κs = search needs
@@ -52,13 +50,12 @@ refuse-at-requires-3 c κs = search needs
 
 returns-3 : tie.Need-returns-3
 unfolding edgeTests
-returns-3 c =
-    (
-      at-third _ _ _ _ ((c .before .before .before .before .before .before .before .before .before .before .refuse-at) .result) ((c .before .before .before .before .before .before .before .before .before .before .refuse-at) .ensures ∙ ap (located 20) ((c .before .before .before .before .before .before .before .before .before .before .before .bad-row) .ensures)) ((c .before .before .before .before .before .before .before .before .if1) .left)
+returns-3 c = (
+  at-third _ _ _ _ ((c .before .before .before .before .before .before .before .before .before .before .refuse-at) .result) ((c .before .before .before .before .before .before .before .before .before .before .refuse-at) .ensures ∙ ap (located 20) ((c .before .before .before .before .before .before .before .before .before .before .before .bad-row) .ensures)) ((c .before .before .before .before .before .before .before .before .if1) .left)
       ((c .before .before .before .before .before .before .refuse-at2) .result) ((c .before .before .before .before .before .before .refuse-at2) .ensures ∙ ap (located 21) ((c .before .before .before .before .before .before .before .bad-row2) .ensures)) ((c .before .before .before .before .if2) .left)
       ((c .before .before .refuse-at3) .result) ((c .before .before .refuse-at3) .ensures ∙ ap (located 22) ((c .before .before .before .bad-row3) .ensures)) ((c .if3) .taken),
-      tally-zero (columns (c .before .before .before .before .before .before .before .before .before .before .before .before .before .before .before .before .before .before .before)) ((c .before .before .before .before .before .before .before .before .before .before .before .before .before .before .before .before .before .before .before) .args .marks .now) ((c .before .before .refuse-at3) .result) ((c .if3) .taken) ((c .before .before .before .before .before .before .before .before .before .before .before .before .before .before .before .before .before .before .before) .pre .1 .1),
-    )
+  tally-zero (columns (c .before .before .before .before .before .before .before .before .before .before .before .before .before .before .before .before .before .before .before)) ((c .before .before .before .before .before .before .before .before .before .before .before .before .before .before .before .before .before .before .before) .args .marks .now) ((c .before .before .refuse-at3) .result) ((c .if3) .taken) ((c .before .before .before .before .before .before .before .before .before .before .before .before .before .before .before .before .before .before .before) .pre .1 .1),
+)
 
 tally-requires : tie.Need-tally-requires
 tally-requires c κs = search needs
@@ -71,9 +68,9 @@ unfolding edgeTests
 returns-4 c =
     let t = columns (c .before .before .before .before .before .before .before .before .before .before .before .before .before .before .before .before .before .before .before .before .before .before .before) in (
       at-fourth _ _ _ _ ((c .before .before .before .before .before .before .before .before .before .before .before .before .before .before .refuse-at) .result) ((c .before .before .before .before .before .before .before .before .before .before .before .before .before .before .refuse-at) .ensures ∙ ap (located 20) ((c .before .before .before .before .before .before .before .before .before .before .before .before .before .before .before .bad-row) .ensures)) ((c .before .before .before .before .before .before .before .before .before .before .before .before .if1) .left)
-      ((c .before .before .before .before .before .before .before .before .before .before .refuse-at2) .result) ((c .before .before .before .before .before .before .before .before .before .before .refuse-at2) .ensures ∙ ap (located 21) ((c .before .before .before .before .before .before .before .before .before .before .before .bad-row2) .ensures)) ((c .before .before .before .before .before .before .before .before .if2) .left)
-      ((c .before .before .before .before .before .before .refuse-at3) .result) ((c .before .before .before .before .before .before .refuse-at3) .ensures ∙ ap (located 22) ((c .before .before .before .before .before .before .before .bad-row3) .ensures)) ((c .before .before .before .before .if3) .left)
-      ((c .before .before .tally) .result) ((c .before .before .tally) .ensures .0 ∙ lowest-ends (edgeSideRefusal t) (sideCount t)),
+          ((c .before .before .before .before .before .before .before .before .before .before .refuse-at2) .result) ((c .before .before .before .before .before .before .before .before .before .before .refuse-at2) .ensures ∙ ap (located 21) ((c .before .before .before .before .before .before .before .before .before .before .before .bad-row2) .ensures)) ((c .before .before .before .before .before .before .before .before .if2) .left)
+          ((c .before .before .before .before .before .before .refuse-at3) .result) ((c .before .before .before .before .before .before .refuse-at3) .ensures ∙ ap (located 22) ((c .before .before .before .before .before .before .before .bad-row3) .ensures)) ((c .before .before .before .before .if3) .left)
+          ((c .before .before .tally) .result) ((c .before .before .tally) .ensures .0 ∙ lowest-ends (edgeSideRefusal t) (sideCount t)),
       (c .before .before .tally) .ensures .1,
     )
 
