@@ -28,18 +28,18 @@ use Rattle.load.specs.Load.{finding, noFinding, firstFound, firstFinding
 
 -- ---- the first of two, of three, of lists
 
-abbrev numberOf : Finding → ℕ
+abbrev pub numberOf : Finding → ℕ
 numberOf a = a .refusal .number
 
-found-passes : (a b : Finding) → numberOf a ≡ 0 → firstFound a b ≡ b
+pub found-passes : (a b : Finding) → numberOf a ≡ 0 → firstFound a b ≡ b
 unfolding firstFound
 found-passes a b z = rw (eq-eqb (numberOf a) 0 z) refl
 
-found-stops : (a b : Finding) → (numberOf a ≡ 0 → ⊥) → firstFound a b ≡ a
+pub found-stops : (a b : Finding) → (numberOf a ≡ 0 → ⊥) → firstFound a b ≡ a
 unfolding firstFound
 found-stops a b n = rw (ne-eqb (numberOf a) 0 n) refl
 
-both-found : (a b : Finding) → numberOf (firstFound a b) ≡ 0 → (numberOf a ≡ 0) × (numberOf b ≡ 0)
+pub both-found : (a b : Finding) → numberOf (firstFound a b) ≡ 0 → (numberOf a ≡ 0) × (numberOf b ≡ 0)
 both-found a b h =
     bool-cases (eqb (numberOf a) 0)
     (λ t. let z = eqb-true (numberOf a) 0 t in (z, ap numberOf (sym (found-passes a b z)) ∙ h))

@@ -1,3 +1,4 @@
 pub mod Sources
 pub mod Cells
 pub mod Load
+pub mod Words

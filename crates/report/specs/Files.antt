@@ -29,14 +29,15 @@ mostBytes = 65536
 abbrev pub mostRows : ℕ
 mostRows = 1000
 
--- "Larger is 15: sizes first, in that order"
-unfoldable pub tooLarge : Sizes → TooLarge
-tooLarge z =
+-- "Larger is 15: sizes first, in that order (cnx's once cnd's header is accepted and shows K)"
+unfoldable pub tooLarge : Sizes → Bool → TooLarge
+tooLarge z cnxRead =
     cond (ltb mostBytes (z .edg)) (Is Edg)
     (cond (ltb mostBytes (z .edx)) (Is Edx)
     (cond (ltb mostBytes (z .fac)) (Is Fac)
     (cond (ltb mostBytes (z .rng)) (Is Rng)
-    (cond (ltb mostBytes (z .cnd)) (Is Cnd) Nothing))))
+    (cond (ltb mostBytes (z .cnd)) (Is Cnd)
+    (cond cnxRead (cond (ltb mostBytes (z .cnx)) (Is Cnx) Nothing) Nothing)))))
 
 -- "cnx if K occurs": any column of cnd, its header being accepted, is a triplet. (A refused header has no columns.)
 abbrev pub tripletColumn : Layout → ℕ → Bool

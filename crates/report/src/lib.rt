@@ -39,6 +39,7 @@ pub struct Sizes {
     pub fac: usize,
     pub rng: usize,
     pub cnd: usize,
+    pub cnx: usize,
 }
 
 pub enum TooLarge {
@@ -61,9 +62,9 @@ const START_WRONG: u32 = 29;
 // Refusal 30: a cycle that an earlier ring owns.
 const CYCLE_OWNED: u32 = 30;
 
-// The first file that is too large, in document 01's order.
-pub fn too_large(sizes: Sizes) -> TooLarge
-    ensures { λ r. ⌜ r ≡ tooLarge sizes ⌝ }
+// The first file that is too large, in document 01's order; cnx only where it is read.
+pub fn too_large(sizes: Sizes, cnx_read: bool) -> TooLarge
+    ensures { λ r. ⌜ r ≡ tooLarge sizes «cnx_read» ⌝ }
 {
     if MOST_BYTES < sizes.edg {
         return TooLarge::Is(FileName::Edg);
@@ -79,6 +80,11 @@ pub fn too_large(sizes: Sizes) -> TooLarge
     }
     if MOST_BYTES < sizes.cnd {
         return TooLarge::Is(FileName::Cnd);
+    }
+    if cnx_read {
+        if MOST_BYTES < sizes.cnx {
+            return TooLarge::Is(FileName::Cnx);
+        }
     }
     TooLarge::Nothing
 }
