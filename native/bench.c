@@ -114,8 +114,8 @@ static void loads(void) {
 
 static void tiles(void) {
     static const size_t side[][2] = {{22, 22}, {70, 70}, {223, 223}, {707, 706}};
-    double last = 0;
-    printf("%-10s %10s %10s %7s   %10s %10s %7s   %7s %8s\n", "edges", "check ns", "C ns", "ratio", "walks ns", "C ns", "ratio", "both", "growth");
+    double last = 0, last_c = 0;
+    printf("%-10s %10s %10s %7s   %10s %10s %7s   %7s %8s %8s\n", "edges", "check ns", "C ns", "ratio", "walks ns", "C ns", "ratio", "both", "growth", "of C");
     for (int i = 0; i < 4; i++) {
         made_tile m;
         grid_tile(&m, side[i][0], side[i][1]);
@@ -125,13 +125,13 @@ static void tiles(void) {
         vumbarete_verdict v = vumbarete_check(COLUMNS(m), marks, 2 * E);
         if (v.number) fprintf(stderr, "check refused %u %zu\n", v.number, v.place), exit(1);
         if (walks_ours(&m, out, 2 * E) != 2 * E) fprintf(stderr, "walks do not add up\n"), exit(1);
-        int turns = E < 50000 ? 200 : E < 500000 ? 30 : 9;
+        int turns = E < 50000 ? 200 : E < 500000 ? 40 : 25;
         BEST(turns, vumbarete_check(COLUMNS(m), marks, 2 * E), ref_check(&t, marks, 2 * E), co, cc)
         BEST(turns, walks_ours(&m, out, 2 * E), walks_ref(&m, out, 2 * E), wo, wc)
-        double per = (co + wo) / E;
-        printf("%-10zu %10.2f %10.2f %7.3f   %10.2f %10.2f %7.3f   %7.3f %8.3f\n", E, co / E * 1e9, cc / E * 1e9, co / cc, wo / E * 1e9,
-               wc / E * 1e9, wo / wc, (co + wo) / (cc + wc), last ? per / last : 1.0);
-        last = per;
+        double per = (co + wo) / E, per_c = (cc + wc) / E;
+        printf("%-10zu %10.2f %10.2f %7.3f   %10.2f %10.2f %7.3f   %7.3f %8.3f %8.3f\n", E, co / E * 1e9, cc / E * 1e9, co / cc, wo / E * 1e9,
+               wc / E * 1e9, wo / wc, (co + wo) / (cc + wc), last ? per / last : 1.0, last_c ? per_c / last_c : 1.0);
+        last = per, last_c = per_c;
         free(marks), free(out), drop_tile(&m);
     }
 }
