@@ -37,7 +37,7 @@ use Rattle.directory.specs.Words.{AcceptedWith, BySize, ByLoad, ByCheck,
 
 module _ (f : Files) (lengths : List ℕ) (c : Counts) (h : Loads f mostRows lengths c) where
   -- a column has as many numbers as its table's count
-  column-counted : (n : TableName) (k : ℕ) → length (column f n k) ≡ countOf c n
+  pub column-counted : (n : TableName) (k : ℕ) → length (column f n k) ≡ countOf c n
   column-counted n k =
       let o = h .opens n in
       length-listed (cellsOf f mostRows n k) (tableIn (tablesOf f mostRows) n .rows)
