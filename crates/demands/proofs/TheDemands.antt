@@ -19,6 +19,7 @@ use Rattle.table.proofs.RowRefusedExactly.{row-of-refused-exactly}
 use Rattle.table.proofs.ValueOfRow.{value-of-row}
 use Rattle.rectangle.proofs.RectangleExactly as rectangle
 use Rattle.load.specs.declared.TableName.{TableName}
+use Rattle.load.specs.declared.TableName.the-variants.{Edg, Fac, Rng, Cnd}
 use Rattle.load.specs.declared.Counts.{Counts}
 use Rattle.load.specs.declared.Loaded.{Loaded}
 use Rattle.load.specs.declared.Loaded.the-variants.{Tile}
@@ -38,8 +39,9 @@ use Rattle.report.specs.Files.{mostRows, tooLarge}
 use Rattle.directory.specs.declared.Outcome.the-variants.{Accepted}
 use Rattle.directory.specs.Outcome.{column, tileSaid, outcomeOf, columnAfter, marksLoaded, marksAfterAll}
 use Rattle.directory.specs.Words.{AcceptedWith}
+use Rattle.directory.proofs.OutcomeLaws.{tile-is}
 use Rattle.directory.proofs.VerdictOfTile as directory
-use Rattle.demands.specs.Demands.{Demand1, Demand2, Demand3, DirectoryWalked}
+use Rattle.demands.specs.Demands.{Demand1, Demand2, Demand3, frontLeft, DirectoryWalked}
 use Rattle.demands.proofs.NumbersNamed as numbers
 use Rattle.demands.proofs.BuffersKept as buffers
 
@@ -129,7 +131,7 @@ module _ (z : Sizes) (cnxRead : Bool) (f : Files) (lengths marks : List ℕ) (c 
   loads : loadOf f mostRows lengths ≡ Tile c
   loads = load.loaded-exactly f mostRows lengths c .1 (in-words .loads)
 
-  column-kept : (n : TableName) (k : ℕ) (d : List ℕ) → take (countOf c n) (columnAfter (tooLarge z cnxRead) f lengths n k d) ≡ column f n k
+  column-kept : (n : TableName) (k : ℕ) (d : List ℕ) → frontLeft z cnxRead f lengths c n k d ≡ column f n k
   column-kept n k d =
       let g = cellsOf f mostRows n k in
       let rows = tableIn (tablesOf f mostRows) n .rows in
@@ -149,11 +151,14 @@ module _ (z : Sizes) (cnxRead : Bool) (f : Files) (lengths marks : List ℕ) (c 
       let w = demand3 (tileSaid f) marks a in
       record {
         accepted = a;
-        edges = edges;
-        faces = directory.counts-faces f lengths c h;
-        rings = rings;
-        nodes = directory.counts-nodes f lengths c h;
+        counts-edges = edges;
+        counts-faces = directory.counts-faces f lengths c h;
+        counts-rings = rings;
+        counts-nodes = directory.counts-nodes f lengths c h;
         columns = column-kept;
+        held = λ sn en rf lf re le rp fi se fe.
+            tile-is f _ _ _ _ _ _ _ _ _ _ (column-kept Edg 1 sn) (column-kept Edg 2 en) (column-kept Edg 3 rf) (column-kept Edg 4 lf) (column-kept Edg 5 re) (column-kept Edg 6 le)
+            (column-kept Fac 7 rp) (column-kept Rng 8 fi) (column-kept Rng 9 se) (column-kept Cnd 10 fe);
         owners = owners-kept;
         walks = w;
         steps = ap (sum (ringSteps (tileSaid f))) (sym rings) ∙ w .adds-up ∙ ap (λ (n : ℕ). 2 * n) edges;

@@ -43,13 +43,15 @@ use Rattle.bounds.specs.Bounds.{Rectangle, Coordinates, boundsOf, refused}
 use Rattle.rectangle.specs.Rectangles.{rectangleOf, refusedWith}
 use Rattle.rectangle.specs.Words as rectangle
 use Rattle.load.specs.declared.TableName.{TableName}
+use Rattle.load.specs.declared.TableName.the-variants.{Edg, Fac, Rng, Cnd}
 use Rattle.load.specs.declared.Counts.{Counts}
 use Rattle.load.specs.declared.Finding.{Finding}
 use Rattle.load.specs.declared.Loaded.the-variants as loaded
 use Rattle.load.specs.Sources.{Files, fileOf, indexOf, tableOf, nameAt, tableAt}
 use Rattle.load.specs.Load.{loadOf, columnLeft}
 use Rattle.load.specs.Words as load
-use Rattle.tile.specs.Columns.{Tile, E, F, R, N, sides}
+use Rattle.side.specs.Edges.{edges}
+use Rattle.tile.specs.Columns.{Tile, tile as tile-of, E, F, R, N, sides}
 use Rattle.tile.specs.declared.Verdict.the-variants as verdict
 use Rattle.tile.specs.declared.Walked.the-variants as walked
 use Rattle.tile.specs.Check.{verdictOf, marksAfter}
@@ -230,16 +232,27 @@ pub record Demand2 : Type 0 where
 -- every side lies on exactly one ring's walk, and that ring bears its face; the steps of all rings add up to exactly 2E (one empty ring and
 -- 0 where E = 0)." `Walked t marks` of crate `tile` (specs/Demand.antt) has a field for each of these.
 
+-- the front of the lent column of place k in table n, d before: as many numbers as c counts
+abbrev pub frontLeft : Sizes → Bool → Files → List ℕ → Counts → TableName → ℕ → List ℕ → List ℕ
+frontLeft z cnxRead f lengths c n k d = take (load.countOf c n) (columnAfter (tooLarge z cnxRead) f lengths n k d)
+
 -- the same of a directory that is accepted with the counts c; `marks` are the lent owner marks
 pub record DirectoryWalked (z : Sizes) (cnxRead : Bool) (f : Files) (lengths marks : List ℕ) (c : Counts) : Type 0 where
   -- the check accepts the tile that its files say, and c counts its edges, faces, rings and nodes
   pub accepted : verdictOf (tileSaid f) (length marks) ≡ verdict.Accepted
-  pub edges : E (tileSaid f) ≡ c .edges
-  pub faces : F (tileSaid f) ≡ c .faces
-  pub rings : R (tileSaid f) ≡ c .rings
-  pub nodes : N (tileSaid f) ≡ c .nodes
-  -- that tile stands at the front of the lent columns, and the marks are those that the check leaves
-  pub columns : (n : TableName) (k : ℕ) (d : List ℕ) → take (load.countOf c n) (columnAfter (tooLarge z cnxRead) f lengths n k d) ≡ column f n k
+  pub counts-edges : E (tileSaid f) ≡ c .edges
+  pub counts-faces : F (tileSaid f) ≡ c .faces
+  pub counts-rings : R (tileSaid f) ≡ c .rings
+  pub counts-nodes : N (tileSaid f) ≡ c .nodes
+  -- that tile stands at the front of the ten lent columns, where `walk_ring` walks it, and the marks are those that the check leaves
+  pub columns : (n : TableName) (k : ℕ) (d : List ℕ) → frontLeft z cnxRead f lengths c n k d ≡ column f n k
+  pub held : (sn en rf lf re le rp fi se fe : List ℕ)
+      → tile-of
+      (edges (frontLeft z cnxRead f lengths c Edg 1 sn) (frontLeft z cnxRead f lengths c Edg 2 en) (frontLeft z cnxRead f lengths c Edg 3 rf)
+      (frontLeft z cnxRead f lengths c Edg 4 lf) (frontLeft z cnxRead f lengths c Edg 5 re) (frontLeft z cnxRead f lengths c Edg 6 le))
+      (frontLeft z cnxRead f lengths c Fac 7 rp) (frontLeft z cnxRead f lengths c Rng 8 fi) (frontLeft z cnxRead f lengths c Rng 9 se)
+      (frontLeft z cnxRead f lengths c Cnd 10 fe)
+      ≡ tileSaid f
   pub owners : marksAfterAll (tooLarge z cnxRead) f lengths marks ≡ marksAfter (tileSaid f) marks
   -- demand 3 holds of it, and so the steps of all its ring rows add up to twice the edges
   pub walks : Walked (tileSaid f) marks
