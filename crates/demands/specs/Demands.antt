@@ -212,7 +212,8 @@ pub record TileMeans (t : Tile) (space : ℕ) : Type 0 where
   pub accepted : (verdictOf t space ≡ verdict.Accepted) ↔ tile.Facts t space
   pub refused : (n p : ℕ) → (verdictOf t space ≡ verdict.Refused (refusal n p)) ↔ tile.RefusedWith t space n p
 
--- a directory judged: its verdict is the check's verdict on the tile that its files say
+-- a directory judged: its verdict is the check's verdict on the tile that its files say. (`judge` answers with `cnxRead` what cnd's header shows,
+-- `f` the six files that it is lent, `lengths` and `space` those of its columns and marks; the statements hold of any.)
 pub record DirectoryMeans (z : Sizes) (cnxRead : Bool) (f : Files) (lengths : List ℕ) (space : ℕ) : Type 0 where
   pub accepted : (c : Counts) → (outcomeOf z cnxRead f lengths space ≡ outcome.Accepted c) ↔ directory.AcceptedWith z cnxRead f lengths space c
   pub refused : (w : Named) → (outcomeOf z cnxRead f lengths space ≡ outcome.Refused w) ↔ directory.RefusedWith z cnxRead f lengths space w
@@ -230,7 +231,7 @@ pub record Demand2 : Type 0 where
 -- ======== DEMAND 3
 -- "In an accepted tile the walk from each ring row comes back to its first side, meets no side twice, takes at most twice the edge count;
 -- every side lies on exactly one ring's walk, and that ring bears its face; the steps of all rings add up to exactly 2E (one empty ring and
--- 0 where E = 0)." `Walked t marks` of crate `tile` (specs/Demand.antt) has a field for each of these.
+-- 0 where E = 0)." `Walked t marks` has a field for each of these: it is `Demand3` of crate `tile` (specs/Demand.antt).
 
 -- the front of the lent column of place k in table n, d before: as many numbers as c counts
 abbrev pub frontLeft : Sizes → Bool → Files → List ℕ → Counts → TableName → ℕ → List ℕ → List ℕ
