@@ -1,0 +1,128 @@
+-- What a refusal leaves in the lent buffers. Assumes nothing.
+use mathlib.Core.Path.{_≡_, refl, ap, _∙_}
+use mathlib.Core.Logic.{_⊎_, ⊎-elim}
+use mathlib.Core.Bool.{Bool, false}
+use mathlib.Core.List.{List}
+use Prim.Native.Nat.{ℕ, _≤_, _<_}
+use native.Mathlib.Omega.{arith}
+use borrow.Author.Tests.{lt-ltb, le-ltb, ne-eqb}
+use lib.Dec.{eqb}
+use lib.ListN.{length}
+use Rattle.laws.specs.Buffer.{front}
+use Rattle.laws.specs.Marks.{zeros}
+use Rattle.refusal.specs.declared.Refusal.{Refusal}
+use Rattle.number.specs.declared.Order.{Order}
+use Rattle.triplet.specs.declared.Ids.{Ids}
+use Rattle.triplet.specs.declared.Written.{Written}
+use Rattle.triplet.specs.declared.Written.the-variants as written
+use Rattle.triplet.specs.Written.{writtenOf, rowAfter}
+use Rattle.load.specs.declared.TableName.{TableName}
+use Rattle.load.specs.declared.Finding.{Finding}
+use Rattle.load.specs.declared.Loaded.{Loaded}
+use Rattle.load.specs.declared.Loaded.the-variants as loaded
+use Rattle.load.specs.Sources.{Files}
+use Rattle.load.specs.Load.{loadOf, columnLeft}
+use Rattle.load.proofs.LoadedExactly as load
+use Rattle.tile.specs.declared.Verdict.the-variants as verdict
+use Rattle.tile.specs.declared.Walked.{Walked}
+use Rattle.tile.specs.declared.Walked.the-variants as walked
+use Rattle.tile.specs.Columns.{Tile, sides}
+use Rattle.tile.specs.Check.{verdictOf, marksLeft, marksAfter}
+use Rattle.tile.specs.Check as check
+use Rattle.tile.specs.Walk.{walkOf, sidesWritten}
+use Rattle.tile.specs.Facts as facts
+use Rattle.tile.proofs.RefusedExactly as tile
+use Rattle.report.specs.declared.Sizes.{Sizes}
+use Rattle.report.specs.declared.TooLarge.{TooLarge}
+use Rattle.report.specs.Files.{mostRows, tooLarge}
+use Rattle.directory.specs.declared.Named.{Named}
+use Rattle.directory.specs.Outcome.{tileSaid, columnAfter, marksLoaded, marksAfterAll}
+use Rattle.directory.specs.Words.{BySize, ByLoad, ByCheck}
+use Rattle.demands.proofs.NumbersNamed.{check-numbers, among-some}
+
+-- ---- triplets written, tiles loaded, rings walked: nothing
+
+pub write-unchanged : (o : Order) (row : List ℕ) (at : ℕ) (t : Ids) (q : Refusal) → writtenOf (length row) at t ≡ written.Refused q
+    → rowAfter (writtenOf (length row) at t) o row at t ≡ row
+write-unchanged o row at t q e = ap (λ (w : Written). rowAfter w o row at t) e
+
+pub load-unchanged : (f : Files) (most : ℕ) (lengths : List ℕ) (q : Finding) → loadOf f most lengths ≡ loaded.Refused q
+    → (n : TableName) (k : ℕ) (d : List ℕ) → columnLeft (loadOf f most lengths) f most n k d ≡ d
+load-unchanged f most lengths q e n k d = ap (λ (l : Loaded). columnLeft l f most n k d) e
+
+pub walk-unchanged : (t : Tile) (r : ℕ) (out : List ℕ) (q : Refusal) → walkOf t r (length out) ≡ walked.Refused q
+    → sidesWritten t r (walkOf t r (length out)) out ≡ out
+walk-unchanged t r out q e = ap (λ (w : Walked). sidesWritten t r w out) e
+
+-- ---- a tile checked: 14 and 15 nothing, the others the first 2E marks
+
+-- a test after that of the owner space stands on it
+space-there : (t : Tile) (space n p : ℕ) (x : facts.Test) → ((y : facts.Test) → facts.rank y < facts.rank x → facts.Holds t space y)
+    → facts.FailsAt t space x n p → 20 ≤ n → sides t ≤ space
+space-there t space n p facts.sizes earlier w h = absurd (omega (arith, w .0, h))
+space-there t space n p facts.owner-space earlier w h = absurd (omega (arith, w .0, h))
+space-there t space n p facts.nodes earlier w h = earlier facts.owner-space (omega arith)
+space-there t space n p facts.faces earlier w h = earlier facts.owner-space (omega arith)
+space-there t space n p facts.links earlier w h = earlier facts.owner-space (omega arith)
+space-there t space n p facts.successors earlier w h = earlier facts.owner-space (omega arith)
+space-there t space n p facts.predecessors earlier w h = earlier facts.owner-space (omega arith)
+space-there t space n p facts.first-edges earlier w h = earlier facts.owner-space (omega arith)
+space-there t space n p facts.ring-faces earlier w h = earlier facts.owner-space (omega arith)
+space-there t space n p facts.runs earlier w h = earlier facts.owner-space (omega arith)
+space-there t space n p facts.starts earlier w h = earlier facts.owner-space (omega arith)
+space-there t space n p facts.not-named-twice earlier w h = earlier facts.owner-space (omega arith)
+space-there t space n p facts.covered earlier w h = earlier facts.owner-space (omega arith)
+
+module _ (t : Tile) (marks : List ℕ) (q : Refusal) (e : verdictOf t (length marks) ≡ verdict.Refused q) where
+  left-by : marksAfter t marks ≡ marksLeft t q marks
+  left-by = ap (λ (r : Refusal). marksLeft t r marks) (tile.refused-number (check.verdict t (length marks)) q e)
+
+  some-number : eqb (q .number) 0 ≡ false
+  some-number = ne-eqb (q .number) 0 (λ z. among-some (q .number) z (check-numbers t (length marks) q e))
+
+  pub check-unchanged : q .number < 20 → marksAfter t marks ≡ marks
+  unfolding marksLeft
+  check-unchanged h = left-by ∙ rw (some-number, lt-ltb (q .number) 20 h) refl
+
+  pub check-zeroed : 20 ≤ q .number → (marksAfter t marks ≡ front zeros (sides t) marks) × (sides t ≤ length marks)
+  unfolding marksLeft
+  check-zeroed h =
+      let w = tile.refused t (length marks) (q .number) (q .place) e in (
+        left-by ∙ rw (some-number, le-ltb (q .number) 20 h) refl,
+        space-there t (length marks) (q .number) (q .place) (w .test) (w .earlier) (w .fails) h,
+      )
+
+-- ---- a directory judged
+
+module _ (z : Sizes) (cnxRead : Bool) (f : Files) (lengths : List ℕ) (space : ℕ) (w : Named) where
+  abbrev columnThen : TableName → ℕ → List ℕ → List ℕ
+  columnThen = columnAfter (tooLarge z cnxRead) f lengths
+
+  abbrev marksThen : List ℕ → List ℕ
+  marksThen = marksAfterAll (tooLarge z cnxRead) f lengths
+
+  by-size : BySize z cnxRead f lengths space w → ((n : TableName) (k : ℕ) (d : List ℕ) → columnThen n k d ≡ d) × ((d : List ℕ) → marksThen d ≡ d)
+  by-size a = (
+    λ n k d. ap (λ (x : TooLarge). columnAfter x f lengths n k d) (a .size),
+    λ d. ap (λ (x : TooLarge). marksAfterAll x f lengths d) (a .size),
+  )
+
+  by-load : ByLoad z cnxRead f lengths space w → ((n : TableName) (k : ℕ) (d : List ℕ) → columnThen n k d ≡ d) × ((d : List ℕ) → marksThen d ≡ d)
+  by-load a =
+      let e = load.refused-exactly f mostRows lengths (a .finding) .1 (a .refused) in (
+        λ n k d. ap (λ (x : TooLarge). columnAfter x f lengths n k d) (a .sizes) ∙ load-unchanged f mostRows lengths (a .finding) e n k d,
+        λ d. ap (λ (x : TooLarge). marksAfterAll x f lengths d) (a .sizes) ∙ ap (λ (x : Loaded). marksLoaded f x d) e,
+      )
+
+  pub directory-unchanged : BySize z cnxRead f lengths space w ⊎ ByLoad z cnxRead f lengths space w
+      → ((n : TableName) (k : ℕ) (d : List ℕ) → columnThen n k d ≡ d) × ((d : List ℕ) → marksThen d ≡ d)
+  directory-unchanged = ⊎-elim by-size by-load
+
+  pub directory-checked : ByCheck z cnxRead f lengths space w
+      → ((n : TableName) (k : ℕ) (d : List ℕ) → columnThen n k d ≡ columnLeft (loadOf f mostRows lengths) f mostRows n k d)
+      × ((d : List ℕ) → marksThen d ≡ marksAfter (tileSaid f) d)
+  directory-checked a =
+      let e = load.loaded-exactly f mostRows lengths (a .counts) .1 (a .loads) in (
+        λ n k d. ap (λ (x : TooLarge). columnAfter x f lengths n k d) (a .sizes),
+        λ d. ap (λ (x : TooLarge). marksAfterAll x f lengths d) (a .sizes) ∙ ap (λ (x : Loaded). marksLoaded f x d) e,
+      )

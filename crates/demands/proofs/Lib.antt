@@ -1,0 +1,3 @@
+pub mod TheDemands
+pub mod NumbersNamed
+pub mod BuffersKept
