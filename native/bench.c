@@ -102,7 +102,7 @@ static void loads(void) {
         if (v.number || v.edges != E) fprintf(stderr, "load refused %u %zu\n", v.number, v.place), exit(1);
         for (int p = 0; p < 10; p++)
             if (memcmp(c[p], m.column[p], m.length[p] * 4)) fprintf(stderr, "load differs\n"), exit(1);
-        int turns = E < 50000 ? 50 : E < 500000 ? 9 : 3;
+        int turns = E < 50000 ? 100 : E < 500000 ? 20 : 7;
         BEST(turns, sum += LOAD.edges, sum += ref_load(files, 1000000, c, m.length).edges, a, b)
         sink = sum;
         printf("%-10zu %10.2f %10.2f %7.3f %8.3f\n", E, a / E * 1e9, b / E * 1e9, a / b, last ? a / E / last : 1.0);
@@ -210,7 +210,7 @@ static void rows(void) {
         edge_table(n, varies);
         vumbarete_table_answer v = vumbarete_judge_rows(BIG);
         if (v.number || v.rows != n) fprintf(stderr, "rows refused %u %zu\n", v.number, v.place), exit(1);
-        BEST(9, sum += vumbarete_judge_rows(BIG).rows, sum += ref_judge_rows(BIG).rows, a, b)
+        BEST(25, sum += vumbarete_judge_rows(BIG).rows, sum += ref_judge_rows(BIG).rows, a, b)
         sink = sum;
         printf("%-34s %12.2f %12.2f %7.3f\n", varies ? "I, K and C* columns, with index" : "I columns, one width", a / n * 1e9, b / n * 1e9, a / b);
     }

@@ -1,4 +1,5 @@
-/* Document 01 in plain C, written from the paper's text and from nothing else: what the archive is compared with. */
+/* Document 01 in plain C: what the archive is compared with. It follows the paper's text and, where that is open, the readings of
+ * docs/DECISIONS.md; it is not a translation of the Rattle code. A reading that both share is not tested by comparing them. */
 #include "reference.h"
 #include <string.h>
 
