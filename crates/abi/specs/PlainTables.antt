@@ -1,12 +1,11 @@
 -- Answers over tables as plain numbers, for C. Each question opens its table first: a refusal of the opening is the answer.
 use mathlib.Core.Bool.{false, cond}
 use mathlib.Core.List.{List}
-use lib.IntN.{ℤ, pos}
+use lib.IntN.{pos}
 use Prim.Native.Nat.{ℕ}
 use lib.Dec.{eqb}
 use lib.Ieee.{Float, fin}
 use Rattle.refusal.specs.declared.Refusal.{Refusal}
-use Rattle.refusal.specs.Order.{fine, lowestOf}
 use Rattle.number.specs.declared.Order.{Order}
 use Rattle.number.specs.declared.Order.the-variants.{Least, Most}
 use Rattle.bounds.specs.Bounds as bounds
@@ -21,7 +20,7 @@ use Rattle.table.specs.declared.Row.the-variants as row
 use Rattle.table.specs.declared.Value.{Value}
 use Rattle.table.specs.declared.Value.the-variants as value
 use Rattle.table.specs.Opening.{mostRows, openedOf}
-use Rattle.table.specs.Rows.{rowOf}
+use Rattle.table.specs.Rows.{rowsRefusal, rowOf}
 use Rattle.table.specs.Values.{valueOf}
 use Rattle.rectangle.specs.Rectangles as rectangle
 use Rattle.abi.specs.declared.PlainHeader.{PlainHeader}
@@ -76,21 +75,13 @@ rowIn file index i = rowUnder (openedOf file index mostRows .answer) (rowOf file
 
 -- ---- every row
 
-abbrev pub refusalOf : Row → Refusal
-refusalOf (row.Between start end) = fine
-refusalOf (row.Refused q) = q
-
--- the judgement of row i of a table
-unfoldable pub rowJudged : List ℕ → List ℕ → Table → ℕ → Refusal
-rowJudged file index t i = refusalOf (rowOf file index t i)
-
 abbrev pub rowsUnder : Answer → Refusal → Table → PlainTable
 rowsUnder answer.Accepted q t = cond (eqb (q .number) 0) (opened answer.Accepted t) (opened (answer.Refused q) t)
 rowsUnder (answer.Refused p) q t = opened (answer.Refused p) t
 
 -- the table that the file and its index are, with every row judged, the lowest that is refused first
 abbrev pub rowsJudged : List ℕ → List ℕ → Opened → PlainTable
-rowsJudged file index o = rowsUnder (o .answer) (lowestOf (rowJudged file index (o .table)) (o .table .rows)) (o .table)
+rowsJudged file index o = rowsUnder (o .answer) (rowsRefusal file index (o .table)) (o .table)
 
 -- ---- a value: its kind is the number of its case below, 1 to 13
 

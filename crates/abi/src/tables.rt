@@ -16,14 +16,13 @@ use table::Row;
 use table::Table;
 use table::Value;
 ghost use mathlib.Core.Path.{_≡_};
-ghost use Rattle.refusal.specs.Order.{lowestOf};
 ghost use Rattle.bounds.specs.Bounds.{rectangle32, rectangle64};
 ghost use Rattle.header.specs.declared.Answer.the-variants as answers;
 ghost use Rattle.header.specs.Layouts.{headerOf};
 ghost use Rattle.header.specs.Steps.{columnOf};
 ghost use Rattle.table.specs.Opening.{mostRows, openedOf, noTable};
 ghost use Rattle.rectangle.specs.Rectangles.{answer};
-ghost use Rattle.abi.specs.PlainTables.{letterOf, plainHeader, opened, plainTable, rowJudged, rowsJudged, plainRow, rowIn, pattern, partOf, plainValue, valueIn, nowhere, plainBounds, plainRectangle, rectangleIn};
+ghost use Rattle.abi.specs.PlainTables.{letterOf, plainHeader, opened, plainTable, rowsJudged, plainRow, rowIn, pattern, partOf, plainValue, valueIn, nowhere, plainBounds, plainRectangle, rectangleIn};
 
 // ---- answers as plain numbers
 
@@ -104,32 +103,6 @@ fn plain_table(o: Opened) -> PlainTable
         }
         Answer::Refused(q) => refused_table(q),
     }
-}
-
-// The refusal of row i, or none.
-fn judge_row(file: &[u8], index: &[u8], table: Table, row: usize) -> Refusal
-    ensures { λ r. ⌜ r ≡ rowJudged (now (file .entry)) (now (index .entry)) table row ⌝ }
-{
-    match table::read_row(file, index, table, row) {
-        Row::Between(_, _) => refusal::no_refusal(),
-        Row::Refused(q) => q,
-    }
-}
-
-// The refusal of the lowest row that has one.
-fn judge_rows(file: &[u8], index: &[u8], table: Table) -> Refusal
-    ensures { λ r. ⌜ r ≡ lowestOf (rowJudged (now (file .entry)) (now (index .entry)) table) (table .rows) ⌝ }
-{
-    let n = table.rows;
-    let mut i: usize = 0;
-    while i < n {
-        let q = judge_row(file, index, table, i + 1);
-        if q.number != 0 {
-            return q;
-        }
-        i += 1;
-    }
-    refusal::no_refusal()
 }
 
 fn plain_row(row: Row) -> PlainRow
@@ -374,7 +347,7 @@ pub extern "C" fn vumbarete_judge_rows(file: &[u8], index: &[u8]) -> PlainTable
     match answer {
         Answer::Accepted => {
             let t = opened.table;
-            let q = judge_rows(file, index, t);
+            let q = table::rows::judge_rows(file, index, t);
             if q.number == 0 {
                 return plain_table(opened);
             }

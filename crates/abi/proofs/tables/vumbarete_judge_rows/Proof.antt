@@ -4,7 +4,7 @@ use Rattle.abi.proofs.tables.vumbarete_judge_rows.Statement.{statement}
 use Rattle.abi.proofs.tables.vumbarete_judge_rows.Tie as tie
 use Rattle.abi.proofs.tables.vumbarete_judge_rows.Reads as reads
 use Rattle.abi.proofs.tables.vumbarete_judge_rows.Lts as lts
-use Rattle.abi.proofs.tables.judge_rows.Reads as judge-rows-reads
+use Rattle.table.proofs.rows.judge_rows.Reads as judge-rows-reads
 use Rattle.abi.proofs.tables.plain_table.Reads as plain-table-reads
 use Rattle.abi.proofs.tables.refused_table.Reads as refused-table-reads
 use Rattle.table.proofs.opening.open_table.Reads as open-table-reads
