@@ -3,7 +3,7 @@ use mathlib.Core.Path.{_≡_, refl, ap, _∙_}
 use mathlib.Core.Logic.{by-cases}
 use mathlib.Core.Bool.{Bool, true, false, cond}
 use mathlib.Core.List.{List}
-use Prim.Native.Nat.{ℕ, zero, suc, pred, _+_, _-_, _≤_, _<_}
+use Prim.Native.Nat.{ℕ, zero, suc, pred, min, _+_, _-_, _≤_, _<_}
 use native.Mathlib.Omega.{arith}
 use native.Mathlib.Numerals.{add-one}
 use lib.Dec.{eqb, leb}
@@ -93,31 +93,29 @@ module _ (s : List ℕ) (l : Layout) (start end : ℕ) where
       ∙ ap (onward (reach s l start end n)) (λ t p. e p t)
 
   module _ (i : ℕ) where
+    -- the tests before a row's fields, and then its fields
+    tested : (q : Refusal) → (noSuchColumn l (l .id) ≡ false → q ≡ fieldsRefusal s l start end i)
+        → cond (outside s start end) (refusal 10 i) (cond (noSuchColumn l (l .id)) (refusal 9 i) q) ≡ rowRefusal s l start end i
+    tested q h =
+        bool-cases (outside s start end)
+        (λ t. rw t (judged-early s l start end i (refusal 10 i) (rw t) (λ e. omega arith)))
+        (λ t. bool-cases (noSuchColumn l (l .id))
+        (λ u. rw (t, u) (judged-early s l start end i (refusal 9 i) (rw (t, u)) (λ e. omega arith)))
+        (λ u. rw (t, u) (judged-late s l start end i fine q (rw (t, u)) refl (h u))))
+
     -- A ROW BY ITS PLAN is judged as its layout says
     pub planned-row : l .width ≡ 0 → plannedRow (l .order) s (planOf l) (columnsOf l) (l .id) start end i ≡ rowRefusal s l start end i
     unfolding plannedRow plannedFields fieldsRefusal columnPlace
     planned-row z =
-        let w = eq-eqb (l .width) 0 z in
-        bool-cases (outside s start end)
-        (λ t. rw t (judged-early s l start end i (refusal 10 i) (rw t) (λ e. omega arith)))
-        (λ t. bool-cases (noSuchColumn l (l .id))
-        (λ u. rw (t, u) (judged-early s l start end i (refusal 9 i) (rw (t, u)) (λ e. omega arith)))
+        tested (plannedFields (l .order) s (planOf l) (columnsOf l) (l .id) start end i)
         (λ u.
         let h = such (columnsOf l) (l .id) u in
-        rw (t, u)
-        (judged-late s l start end i fine _ (rw (t, u)) refl
-        (rw (w, plan-reach (columnsOf l) (omega arith), plan-reach (pred (l .id)) (omega (arith, h .1)))))))
+        rw (eq-eqb (l .width) 0 z, plan-reach (columnsOf l) (omega arith), plan-reach (pred (l .id)) (omega (arith, h .1))))
 
     -- A ROW OF ONE WIDTH likewise
     pub fixed-row : (l .width ≡ 0 → ⊥) → fixedRow (l .order) s (noSuchColumn l (l .id)) (idOffset l) start end i ≡ rowRefusal s l start end i
     unfolding fixedRow idOffset fieldsRefusal columnPlace
-    fixed-row z =
-        let w = ne-eqb (l .width) 0 z in
-        bool-cases (outside s start end)
-        (λ t. rw t (judged-early s l start end i (refusal 10 i) (rw t) (λ e. omega arith)))
-        (λ t. bool-cases (noSuchColumn l (l .id))
-        (λ u. rw (t, u) (judged-early s l start end i (refusal 9 i) (rw (t, u)) (λ e. omega arith)))
-        (λ u. rw (t, u) (judged-late s l start end i fine _ (rw (t, u)) refl (rw w))))
+    fixed-row z = tested (idJudged (l .order) s (min (start + idOffset l) end) i) (λ u. rw (u, ne-eqb (l .width) 0 z))
 
 -- ---- a walk by the plan
 module _ (o : Order) (s plan : List ℕ) (start end : ℕ) where

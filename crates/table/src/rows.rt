@@ -54,7 +54,7 @@ fn judge_fixed_row(file: &[u8], order: Order, missing: bool, offset: usize, star
     crate::judge_id(file, order, crate::place_within(start, end, offset), row)
 }
 
-// The rows 1..n, each of one width.
+// The rows 1..n, each of one width: nothing of the index is read.
 fn judge_fixed(file: &[u8], index: &[u8], layout: Layout, n: usize) -> Refusal
     requires { ⌜ (layout .width ≡ 0 → ⊥) ⌝ }
     requires { ⌜ n ≤ mostRows ⌝ }
