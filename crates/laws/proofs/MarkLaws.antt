@@ -24,13 +24,10 @@ use Rattle.laws.proofs.OrbitLaws.{iterate-in, meets-hit, meets-miss, me
 pub single : (f : ℕ → ℕ) (n : ℕ) → Into f n n → firstDoubled f n ≡ 0 → Inj f n
 single f n w e = inj-of f n n w (λ s a b. ltb-false 1 _ (lowest-zero (λ (s : ℕ). ltb 1 (hits f n s)) n e .fails s a b))
 
-module _ (f : ℕ → ℕ) (n : ℕ) (d e : List ℕ) (w : Into f n n) (room : n ≤ length d) where
-  pub tally-turn : (i t v : ℕ) → i < n → e ≡ front (count f i) n d → t ≡ f (suc i) → v ≡ min 2 (getD e (t - 1) 0 + 1)
+module _ (f : ℕ → ℕ) (n : ℕ) (d e : List ℕ) (room : n ≤ length d) where
+  pub tally-turn : (i t v : ℕ) → 0 < t → t ≤ n → e ≡ front (count f i) n d → t ≡ f (suc i) → v ≡ min 2 (getD e (t - 1) 0 + 1)
       → set e (t - 1) v ≡ front (count f (i + 1)) n d
-  tally-turn i t v h q r u =
-      let W = w (suc i) (omega arith) h in
-      let x : 0 < t = rw r (W .0) in
-      let y : t ≤ n = rw r (W .1) in
+  tally-turn i t v x y q r u =
       let s : suc (t - 1) ≡ t = omega arith in
       let b : getD e (t - 1) 0 ≡ count f i (t - 1) = ap (λ (z : List ℕ). getD z (t - 1) 0) q ∙ front-low (count f i) n d (t - 1) (omega arith) in
       rw add-one

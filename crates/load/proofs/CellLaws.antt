@@ -19,13 +19,12 @@ use Rattle.header.specs.declared.Layout.{Layout}
 use Rattle.header.specs.Judge.{mostColumns}
 use Rattle.table.specs.declared.Places.{Places}
 use Rattle.table.specs.Opening.{mostRows}
-use Rattle.table.specs.Rows.{outside, noSuchColumn, columnsOf, columnAt, boundOf, slotOf, keptFor, walked, placesOf, placeOfColumn, columnPlace, placeRefusal, fieldsRefusal, rowRefusal}
+use Rattle.table.specs.Rows.{outside, noSuchColumn, columnsOf, columnAt, boundOf, slotOf, keptFor, walked, placesOf, placeOfColumn, columnPlace, placeRefusal, fieldsRefusal, rowRefusal, rowJudged}
 use Rattle.table.proofs.RowLaws.{such, place-fine}
 use Rattle.table.proofs.FoundLaws.{column-there}
 use Rattle.table.proofs.SlotLaws.{Alone, kept-for}
 use Rattle.load.specs.Sources.{atPlace}
 use Rattle.load.specs.Cells.{numberIn, cellIn, edgeCells, cellOf, ask, slotsOf, EdgeColumns, SixThere}
-use Rattle.load.specs.Load.{rowJudged}
 
 -- the six are columns that a header can have
 pub six-there : (l : Layout) (columns : List ℕ) → EdgeColumns l columns → SixThere columns

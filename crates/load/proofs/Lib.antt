@@ -1,5 +1,4 @@
 pub mod FitLaws
-pub mod RowsLaws
 pub mod OpenLaws
 pub mod CellLaws
 pub mod TopLaws

@@ -4,7 +4,7 @@ use mathlib.Core.Path.{_≡_, refl, sym, ap, subst, _∙_}
 use mathlib.Core.Logic.{_↔_, _⊎_, inl, inr, ⊎-elim}
 use mathlib.Core.Bool.{true, false, true≢false}
 use mathlib.Core.List.{List, [], _∷_}
-use Prim.Native.Nat.{ℕ, zero, suc, _≤_, _<_}
+use Prim.Native.Nat.{ℕ, zero, suc, min, _≤_, _<_}
 use native.Mathlib.Omega.{arith}
 use borrow.Author.Tests.{eq-eqb, ne-eqb, eqb-true, eqb-false, ltb-true, ltb-false, le-ltb, leb-true, leb-false}
 use lib.Dec.{eqb, ltb, leb}
@@ -27,8 +27,9 @@ use Rattle.header.proofs.AcceptedExactly.{accepted-once}
 use Rattle.header.proofs.LayoutMeans.{laid-out}
 use Rattle.header.proofs.ColumnOfName.{Named, column-of-name, column-of-name-only}
 use Rattle.table.specs.declared.Table.{Table}
-use Rattle.table.specs.Opening.{tableRefusal}
-use Rattle.table.specs.Rows.{noSuchColumn, columnAt}
+use Rattle.table.specs.Opening.{mostRows, tableRefusal}
+use Rattle.table.specs.Rows as rows
+use Rattle.table.specs.Rows.{noSuchColumn, columnAt, rowJudged, rowsRefusal}
 use Rattle.table.specs.Words as table
 use Rattle.table.proofs.RowLaws.{such}
 use Rattle.table.proofs.OpeningInOrder.{refused-exactly-when}
@@ -42,7 +43,7 @@ use Rattle.load.specs.declared.Finding.{Finding}
 use Rattle.load.specs.declared.Counts.{Counts}
 use Rattle.load.specs.declared.Loaded.the-variants.{Tile, Refused}
 use Rattle.load.specs.Sources.{Files, fileOf, indexOf, tableIn, tableOf, tablesOf, nameAt, tableAt, tripletsToo, typeFits, fitting, columnFor, columnsFor, atPlace, rowsFor}
-use Rattle.load.specs.Load.{finding, opening, missing, columnFinding, emptyFinding, tooShort, roomAt, roomFinding, rowJudged, rowsRefusal, rowsFinding, columnsOf, tests, loadFinding, counts, loadOf}
+use Rattle.load.specs.Load.{finding, opening, missing, columnFinding, emptyFinding, tooShort, roomAt, roomFinding, rowsFinding, columnsOf, tests, loadFinding, counts, loadOf}
 use Rattle.load.specs.Words.{OpensWith, rowsOf, TakesTriplets, TypeRight, ColumnThere, RoomFor, layoutIn, rowEnd, rowStart, RowRight, IsEmpty, countOf, Loads, Test, opened, columns-there, faces-some, rings-some, room-enough, rows-right, turn, rank, Holds, FailsWith, RefusedWith}
 use Rattle.load.proofs.TopLaws.{numberOf}
 use Rattle.load.proofs.FoundInOrder.{Exactly, InOrder, nothing-exactly, found-exactly, exactly-of, exactly-empty, exactly-lowest}
@@ -246,7 +247,10 @@ module _ (f : Files) (most : ℕ) where
 
     rows-as : rowsFinding f tables n ≡ finding n (lowestOf (rowJudged file index (layoutIn f n)) (rowsOf f n))
     unfolding rowsRefusal
-    rows-as = ap (λ (t : Table). finding n (lowestOf (rowJudged file index (t .layout)) (t .rows))) opened-said
+    rows-as =
+        let q : min (rowsOf f n) mostRows ≡ rowsOf f n = omega (arith, rows-said, o .row-limit) in
+        ap (λ (t : Table). finding n (lowestOf (rowJudged file index (t .layout)) (rows.rowsOf t))) opened-said
+        ∙ ap (λ (r : ℕ). finding n (lowestOf (rowJudged file index (layoutIn f n)) r)) q
 
     -- the lowest row that is not right
     lowest-row : Exactly (finding n (lowestOf (rowJudged file index (layoutIn f n)) (rowsOf f n))) (Each (rowsOf f n) (RowRight f n))

@@ -1,5 +1,5 @@
 -- What all tests found, and what follows for the writing. Assumes nothing.
-use mathlib.Core.Path.{_≡_, refl, sym, ap, _∙_}
+use mathlib.Core.Path.{_≡_, refl, sym, ap, subst, _∙_}
 use mathlib.Core.Bool.{false}
 use mathlib.Core.List.{List, [], _∷_, _++_}
 use Prim.Native.Nat.{ℕ, zero, suc, _≤_, _<_}
@@ -9,11 +9,12 @@ use lib.Dec.{eqb}
 use Rattle.laws.specs.Lowest.{None}
 use Rattle.laws.specs.Buffer.{front}
 use Rattle.laws.proofs.LowestLaws.{bool-cases, lowest-zero}
+use Rattle.refusal.specs.Order.{refuses}
 use Rattle.refusal.proofs.OrderLaws.{located-passes, all-passed}
 use Rattle.header.specs.declared.Layout.{Layout}
 use Rattle.table.specs.declared.Table.{Table}
 use Rattle.table.specs.Opening.{mostRows, tableRefusal, openedOf}
-use Rattle.table.specs.Rows.{columnAt, noSuchColumn}
+use Rattle.table.specs.Rows.{rowsOf, columnAt, noSuchColumn, rowJudged, rowsRefusal}
 use Rattle.table.proofs.OpenedExactly.{opened-exactly, opened-table}
 use Rattle.load.specs.declared.TableName.{TableName}
 use Rattle.load.specs.declared.TableName.the-variants.{Edg, Fac, Rng, Cnd}
@@ -24,7 +25,7 @@ use Rattle.load.specs.declared.Judged.{Judged}
 use Rattle.load.specs.declared.Loaded.the-variants.{Tile, Refused}
 use Rattle.load.specs.Sources.{Files, fileOf, indexOf, tableIn, tablesOf, typeFits, fitting, columnFor, columnsFor, atPlace, rowsFor}
 use Rattle.load.specs.Cells.{cellOf, EdgeColumns}
-use Rattle.load.specs.Load.{finding, noFinding, firstFound, firstFinding, openingTests, missing, columnFinding, emptyFinding, tooShort, roomAt, roomFinding, fitTests, RowsJudged, FewRows, rowsRefusal, rowTests, columnsOf, openedAll, fitFinding, allRowsFinding, loadFinding, judgedOf, counts, loadOf, cellsOf}
+use Rattle.load.specs.Load.{finding, noFinding, firstFound, firstFinding, openingTests, missing, columnFinding, emptyFinding, tooShort, roomAt, roomFinding, fitTests, RowsJudged, FewRows, rowTests, columnsOf, openedAll, fitFinding, allRowsFinding, loadFinding, judgedOf, counts, loadOf, cellsOf}
 
 -- ---- the first of two, of three, of lists
 
@@ -120,6 +121,13 @@ few file index most =
     let e = ap (λ (t : Table). t .rows) (opened-table file index most (w .0) (w .1) (w .2)) in
     omega (arith, e, w .2 .row-limit))
     (λ b. few-refused file index most b)
+
+-- the rows of a table that is not too long are all judged
+all-judged : (file index : List ℕ) (t : Table) → t .rows ≤ mostRows → rowsRefusal file index t .number ≡ 0 → RowsJudged file index t
+unfolding rowsRefusal
+all-judged file index t h e =
+    let q : rowsOf t ≡ t .rows = omega arith in
+    subst (λ (n : ℕ). None (refuses (rowJudged file index (t .layout))) n) q (all-passed (rowJudged file index (t .layout)) (rowsOf t) e)
 
 pub few-rows : (f : Files) (most : ℕ) (t : Tables) → t ≡ tablesOf f most → FewRows t
 unfolding tablesOf
@@ -261,22 +269,23 @@ module _ (f : Files) (most : ℕ) (lengths : List ℕ) (j : Judged) (p : j ≡ j
     pub room : (k : ℕ) → 0 < k → k ≤ 10 → atPlace (rowsFor (j .tables)) k ≤ atPlace lengths k
     room k a b = ltb-false (atPlace lengths k) (atPlace (rowsFor (j .tables)) k) (none-short .fails k a b)
 
-    -- every row is accepted
-    pub rows-judged-edg : RowsJudged (f .edg) (f .edx) (j .tables .edg)
-    unfolding allRowsFinding rowsRefusal
-    rows-judged-edg = all-passed _ _ (both-found _ _ rows-passed .0)
-
-    pub rows-judged-fac : RowsJudged (f .fac) (f .fax) (j .tables .fac)
-    unfolding allRowsFinding rowsRefusal
-    rows-judged-fac = all-passed _ _ (both-found _ _ (both-found _ _ rows-passed .1) .0)
-
-    pub rows-judged-rng : RowsJudged (f .rng) (f .rnx) (j .tables .rng)
-    unfolding allRowsFinding rowsRefusal
-    rows-judged-rng = all-passed _ _ (both-found _ _ (both-found _ _ (both-found _ _ rows-passed .1) .1) .0)
-
-    pub rows-judged-cnd : RowsJudged (f .cnd) (f .cnx) (j .tables .cnd)
-    unfolding allRowsFinding rowsRefusal
-    rows-judged-cnd = all-passed _ _ (both-found _ _ (both-found _ _ (both-found _ _ (both-found _ _ rows-passed .1) .1) .1) .0)
-
     pub few-judged : FewRows (j .tables)
     few-judged = few-rows f most (j .tables) same-tables-judged
+
+    -- every row is accepted
+    pub rows-judged-edg : RowsJudged (f .edg) (f .edx) (j .tables .edg)
+    unfolding allRowsFinding
+    rows-judged-edg = all-judged _ _ (j .tables .edg) (few-judged .0) (both-found _ _ rows-passed .0)
+
+    pub rows-judged-fac : RowsJudged (f .fac) (f .fax) (j .tables .fac)
+    unfolding allRowsFinding
+    rows-judged-fac = all-judged _ _ (j .tables .fac) (few-judged .1) (both-found _ _ (both-found _ _ rows-passed .1) .0)
+
+    pub rows-judged-rng : RowsJudged (f .rng) (f .rnx) (j .tables .rng)
+    unfolding allRowsFinding
+    rows-judged-rng = all-judged _ _ (j .tables .rng) (few-judged .2) (both-found _ _ (both-found _ _ (both-found _ _ rows-passed .1) .1) .0)
+
+    pub rows-judged-cnd : RowsJudged (f .cnd) (f .cnx) (j .tables .cnd)
+    unfolding allRowsFinding
+    rows-judged-cnd = all-judged _ _ (j .tables .cnd) (few-judged .3) (both-found _ _ (both-found _ _ (both-found _ _ (both-found _ _ rows-passed .1) .1) .1) .0)
+

@@ -2,19 +2,18 @@
 -- writing nothing past the rows."
 use mathlib.Core.Bool.{Bool, cond}
 use mathlib.Core.List.{List, [], _∷_, _++_}
-use Prim.Native.Nat.{ℕ, zero, suc, pred, _≤_}
+use Prim.Native.Nat.{ℕ, zero, suc, _≤_}
 use lib.Dec.{eqb, ltb}
 use lib.ListN.{length}
 use Rattle.laws.specs.Lowest.{lowest, None}
 use Rattle.laws.specs.Buffer.{front}
 use Rattle.refusal.specs.declared.Refusal.{Refusal}
-use Rattle.refusal.specs.Order.{refusal, fine, refusedIf, located, refuses, lowestOf}
-use Rattle.header.specs.declared.Layout.{Layout}
+use Rattle.refusal.specs.Order.{refusal, fine, refusedIf, located, refuses}
 use Rattle.header.specs.declared.Answer.{Answer}
 use Rattle.header.specs.declared.Answer.the-variants as answer
 use Rattle.table.specs.declared.Table.{Table}
 use Rattle.table.specs.Opening.{mostRows, tableRefusal}
-use Rattle.table.specs.Rows.{boundOf, rowRefusal}
+use Rattle.table.specs.Rows.{rowJudged, rowsRefusal}
 use Rattle.load.specs.Sources.{Files, fileOf, indexOf, tableIn, tablesOf, tableAt, columnsFor, atPlace, rowsFor}
 use Rattle.load.specs.Cells.{cellOf}
 use Rattle.load.specs.declared.TableName.{TableName}
@@ -83,10 +82,6 @@ abbrev pub fitTests : Tables → List ℕ → List ℕ → List Finding
 fitTests t columns lengths =
     columnFinding columns ∷ emptyFinding Fac (t .fac .rows) ∷ emptyFinding Rng (t .rng .rows) ∷ roomFinding lengths (rowsFor t) ∷ []
 
--- the rows of a table, lowest first
-abbrev pub rowJudged : List ℕ → List ℕ → Layout → ℕ → Refusal
-rowJudged file index l i = rowRefusal file l (boundOf l index (pred i)) (boundOf l index i) i
-
 -- every row is accepted
 abbrev pub RowsJudged : List ℕ → List ℕ → Table → Type 0
 RowsJudged file index t = None (refuses (rowJudged file index (t .layout))) (t .rows)
@@ -94,9 +89,6 @@ RowsJudged file index t = None (refuses (rowJudged file index (t .layout))) (t .
 -- no table has over 1,000,000
 abbrev pub FewRows : Tables → Type 0
 FewRows t = (t .edg .rows ≤ mostRows) × (t .fac .rows ≤ mostRows) × (t .rng .rows ≤ mostRows) × (t .cnd .rows ≤ mostRows)
-
-unfoldable pub rowsRefusal : List ℕ → List ℕ → Table → Refusal
-rowsRefusal file index t = lowestOf (rowJudged file index (t .layout)) (t .rows)
 
 abbrev pub rowsFinding : Files → Tables → TableName → Finding
 rowsFinding f t n = finding n (rowsRefusal (fileOf f n) (indexOf f n) (tableIn t n))

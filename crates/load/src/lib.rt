@@ -6,11 +6,9 @@ use header::Answer;
 use refusal::Refusal;
 use table::Table;
 ghost use mathlib.Core.Path.{_≡_};
-ghost use Prim.Native.Nat.{_≤_};
-ghost use Rattle.table.specs.Opening.{mostRows};
 ghost use Rattle.load.specs.declared.TableName.the-variants.{Edg, Fac, Rng, Cnd};
 ghost use Rattle.load.specs.Sources.{files};
-ghost use Rattle.load.specs.Load.{finding, firstFound, refusalOf, FewRows, rowsRefusal, openedAll, allRowsFinding, judgedOf, loadOf, columnLeft, lengthsOf};
+ghost use Rattle.load.specs.Load.{finding, firstFound, refusalOf, openedAll, allRowsFinding, judgedOf, loadOf, columnLeft, lengthsOf};
 
 pub enum TableName {
     Edg,
@@ -109,36 +107,14 @@ fn open_all(edg: &[u8], edx: &[u8], fac: &[u8], fax: &[u8], rng: &[u8], rnx: &[u
 
 // ---- rows
 
-// The rows of one table, lowest first. Each starts where the last ended.
-fn judge_rows(file: &[u8], index: &[u8], table: Table) -> Refusal
-    requires { ⌜ table .rows ≤ mostRows ⌝ }
-    ensures { λ r. ⌜ r ≡ rowsRefusal (now (file .entry)) (now (index .entry)) table ⌝ }
-{
-    let layout = table.layout;
-    let n = table.rows;
-    let mut start = table::row_bound(index, layout, 0);
-    let mut i: usize = 0;
-    while i < n {
-        let end = table::row_bound(index, layout, i + 1);
-        let judged = table::judge_row(file, layout, start, end, i + 1);
-        if judged.number != 0 {
-            return judged;
-        }
-        start = end;
-        i += 1;
-    }
-    refusal::no_refusal()
-}
-
 // The rows table by table.
 fn judge_all_rows(edg: &[u8], edx: &[u8], fac: &[u8], fax: &[u8], rng: &[u8], rnx: &[u8], cnd: &[u8], cnx: &[u8], tables: Tables) -> Finding
-    requires { ⌜ FewRows tables ⌝ }
     ensures { λ r. ⌜ r ≡ allRowsFinding (files (now (edg .entry)) (now (edx .entry)) (now (fac .entry)) (now (fax .entry)) (now (rng .entry)) (now (rnx .entry)) (now (cnd .entry)) (now (cnx .entry))) tables ⌝ }
 {
-    let a = find(TableName::Edg, judge_rows(edg, edx, tables.edg));
-    let b = find(TableName::Fac, judge_rows(fac, fax, tables.fac));
-    let c = find(TableName::Rng, judge_rows(rng, rnx, tables.rng));
-    let d = find(TableName::Cnd, judge_rows(cnd, cnx, tables.cnd));
+    let a = find(TableName::Edg, table::rows::judge_rows(edg, edx, tables.edg));
+    let b = find(TableName::Fac, table::rows::judge_rows(fac, fax, tables.fac));
+    let c = find(TableName::Rng, table::rows::judge_rows(rng, rnx, tables.rng));
+    let d = find(TableName::Cnd, table::rows::judge_rows(cnd, cnx, tables.cnd));
     first_found(a, first_found(b, first_found(c, first_found(d, find(TableName::Edg, refusal::no_refusal())))))
 }
 

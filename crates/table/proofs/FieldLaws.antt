@@ -40,7 +40,7 @@ triplet-room o s at end n t h l e =
     let k : length (take (end - at) (drop at s)) ≡ end - at = simp (length-take, length-drop) (omega arith) in
     omega (arith, within o (take (end - at) (drop at s)) t n e .0)
 
-plain-within : (at end need p : ℕ) → at ≤ end → plainEnd at end need ≡ At p → p ≤ end
+pub plain-within : (at end need p : ℕ) → at ≤ end → plainEnd at end need ≡ At p → p ≤ end
 unfolding plainEnd
 plain-within at end need p h e =
     bool-cases (leb need (end - at))
@@ -50,14 +50,14 @@ plain-within at end need p h e =
     same : At (at + need) ≡ At p → need ≤ end - at → p ≤ end
     same e t = let q : at + need ≡ p = cc in omega arith
 
-star-within : (o : Order) (s : List ℕ) (at end w p : ℕ) → at ≤ end → starEnd o s at end w ≡ At p → p ≤ end
+pub star-within : (o : Order) (s : List ℕ) (at end w p : ℕ) → at ≤ end → starEnd o s at end w ≡ At p → p ≤ end
 unfolding starEnd
 star-within o s at end w p h e =
     bool-cases (ltb (end - at) 4)
     (λ t. absurd (not-reached p (rw t at e)))
     (λ t. plain-within (at + 4) end (number o s at 4 * w) p (omega (arith, ltb-false (end - at) 4 t)) (rw t at e))
 
-triplet-within : (o : Order) (s : List ℕ) (at end p : ℕ) → at ≤ end → end ≤ length s → (x : Triplet)
+pub triplet-within : (o : Order) (s : List ℕ) (at end p : ℕ) → at ≤ end → end ≤ length s → (x : Triplet)
     → tripletOf o (take (end - at) (drop at s)) ≡ x → pastTriplet at x ≡ At p → p ≤ end
 triplet-within o s at end p h l (triplet.Is t n) q e = let u : at + n ≡ p = cc in omega (arith, triplet-room o s at end n t h l q)
 triplet-within o s at end p h l (triplet.Refused k) q e = let z : _≡_ {A = ℕ} 0 1 = cc in absurd (omega arith)

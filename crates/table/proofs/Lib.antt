@@ -14,3 +14,4 @@ pub mod ValueOfRow
 pub mod SignedLaws
 pub mod ValueLaws
 pub mod RowRefusedExactly
+pub mod PlanLaws

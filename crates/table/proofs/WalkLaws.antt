@@ -16,6 +16,15 @@ use Rattle.table.specs.Opening.{needsIndex}
 use Rattle.table.specs.Rows.{fieldEnd, columnAt, onward, reach, placeOf, columnPlace, slotOf, keep, placesKept, walked}
 use Rattle.table.proofs.FieldLaws.{field-within}
 
+-- a walk that goes on from where it came, and that stopped, stays so
+module _ (r : ℕ → Reach) (g : ℕ → ℕ → Reach) (step : (n : ℕ) → r (suc n) ≡ onward (r n) (g n)) where
+  pub stays-so : (x : Reach) → ((f : ℕ → Reach) → onward x f ≡ x) → (j : ℕ) → r j ≡ x → (n : ℕ) → j ≤ n → r n ≡ x
+  stays-so x h j e zero k = let q : 0 ≡ j = omega arith in ap r q ∙ e
+  stays-so x h j e (suc n) k =
+      by-cases (decLe j n)
+      (λ c. step n ∙ ap (λ (y : Reach). onward y (g n)) (stays-so x h j e n c) ∙ h (g n))
+      (λ c. let q : suc n ≡ j = omega arith in ap r q ∙ e)
+
 module _ (s : List ℕ) (l : Layout) (start end : ℕ) where
   -- the next column, from where the last ended
   pub reach-next : (j at : ℕ) (x : Reach) → reach s l start end j ≡ At at → x ≡ fieldEnd (l .order) s end (columnAt l (suc j)) at
@@ -24,11 +33,7 @@ module _ (s : List ℕ) (l : Layout) (start end : ℕ) where
 
   -- a walk that stopped stays so
   pub stays : (x : Reach) → ((f : ℕ → Reach) → onward x f ≡ x) → (j : ℕ) → reach s l start end j ≡ x → (n : ℕ) → j ≤ n → reach s l start end n ≡ x
-  stays x h j e zero k = let q : 0 ≡ j = omega arith in ap (λ (k : ℕ). reach s l start end k) q ∙ e
-  stays x h j e (suc n) k =
-      by-cases (decLe j n)
-      (λ c. rw (stays x h j e n c) (h (λ p. fieldEnd (l .order) s end (columnAt l (suc n)) p)))
-      (λ c. let q : suc n ≡ j = omega arith in ap (λ (k : ℕ). reach s l start end k) q ∙ e)
+  stays = stays-so (reach s l start end) (λ n p. fieldEnd (l .order) s end (columnAt l (suc n)) p) (λ n. refl)
 
   within-go : (x : Reach) (n p : ℕ) → reach s l start end n ≡ x → onward x (λ q. fieldEnd (l .order) s end (columnAt l (suc n)) q) ≡ At p
       → end ≤ length s → ((q : ℕ) → reach s l start end n ≡ At q → q ≤ end) → p ≤ end

@@ -1,4 +1,5 @@
 pub mod Opening
 pub mod Rows
+pub mod Plans
 pub mod Values
 pub mod Words

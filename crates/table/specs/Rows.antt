@@ -5,7 +5,7 @@ use Prim.Native.Nat.{ℕ, zero, suc, pred, min, _+_, _-_, _*_}
 use lib.Dec.{eqb, ltb, leb}
 use lib.ListN.{length, getD, set, take, drop, replicate}
 use Rattle.refusal.specs.declared.Refusal.{Refusal}
-use Rattle.refusal.specs.Order.{refusal, fine, refusedIf, first}
+use Rattle.refusal.specs.Order.{refusal, fine, refusedIf, first, lowestOf}
 use Rattle.number.specs.declared.Order.{Order}
 use Rattle.number.specs.Bytes.{number}
 use Rattle.field.specs.declared.FieldType.{FieldType}
@@ -135,8 +135,12 @@ keptFor at slots k = getD at (slotOf slots k) 0
 abbrev pub idAt : List ℕ → Layout → ℕ → ℕ
 idAt s l p = number (l .order) s p 4
 
+-- "9: id in row wrong", where the id starts at the place p
+abbrev pub idJudged : Order → List ℕ → ℕ → ℕ → Refusal
+idJudged o s p i = refusedIf (not (eqb (number o s p 4) i)) 9 i
+
 abbrev pub idRefusal : List ℕ → Layout → ℕ → ℕ → Refusal
-idRefusal s l p i = refusedIf (not (eqb (idAt s l p) i)) 9 i
+idRefusal s l p i = idJudged (l .order) s p i
 
 -- "Within a row, 10 and 11 by column order (a cut triplet is 11), then 9"; 10 too where the row is not used up
 abbrev pub usedUp : Reach → ℕ → ℕ → Refusal → Refusal
@@ -186,3 +190,13 @@ rowOf file index t i =
     cond (noSuchRow t i) (Refused (refusal 13 i))
     (unlessRefused (rowRefusal file (t .layout) (boundOf (t .layout) index (pred i)) (boundOf (t .layout) index i) i)
     (boundOf (t .layout) index (pred i)) (boundOf (t .layout) index i))
+
+-- ---- all rows: "lowest row or side first"
+
+-- row i, from where the last ended
+abbrev pub rowJudged : List ℕ → List ℕ → Layout → ℕ → Refusal
+rowJudged file index l i = rowRefusal file l (boundOf l index (pred i)) (boundOf l index i) i
+
+-- THE ROWS of a table: the judgement of the lowest that is refused
+unfoldable pub rowsRefusal : List ℕ → List ℕ → Table → Refusal
+rowsRefusal file index t = lowestOf (rowJudged file index (t .layout)) (rowsOf t)

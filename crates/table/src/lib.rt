@@ -1,5 +1,6 @@
 // Tables: opened with their lent index, rows found and judged, values handed out.
 pub mod opening;
+pub mod rows;
 
 ghost use mathlib.Core.Path.{_≡_};
 ghost use mathlib.Core.Bool.{false};
@@ -11,7 +12,8 @@ ghost use Rattle.header.specs.Judge.{mostColumns};
 ghost use Rattle.header.specs.Layouts.{blankColumn};
 ghost use Rattle.field.specs.Nulls.{shortHalf, integerHalf, signed};
 ghost use Rattle.table.specs.Opening.{mostRows, endAt};
-ghost use Rattle.table.specs.Rows.{columnsOf, noSuch, noSuchColumn, outside, columnAt, boundOf, plainEnd, starEnd, tripletEnd, fieldEnd, walked, slotsFor, keptFor, placesOf, foundOf, idRefusal, usedUp, columnPlace, offsetPlace, fieldsRefusal, placeRefusal, placeFound, rowRefusal, unlessRefused, rowOf};
+ghost use Rattle.table.specs.Rows.{columnsOf, noSuch, noSuchColumn, outside, columnAt, boundOf, plainEnd, starEnd, tripletEnd, fieldEnd, walked, slotsFor, keptFor, placesOf, foundOf, idJudged, usedUp, columnPlace, offsetPlace, fieldsRefusal, placeRefusal, placeFound, rowRefusal, unlessRefused, rowOf};
+ghost use Rattle.table.specs.Plans.{fixedBound, entryEnd};
 ghost use Rattle.table.specs.Values.{shortOf, integerOf, floatOf, doubleOf, elementsStart, elementsBytes, tripletOfRead, shown, inRow, valueOf, shownStart, shownBytes, partOf};
 
 use field::FieldType;
@@ -255,10 +257,9 @@ fn kept_place(at: [usize; 8], slots: [u8; 64], column: usize) -> usize
 // ---- the judgement
 
 // 9 where the number at the place of the id is not the row's.
-fn judge_id(file: &[u8], layout: Layout, place: usize, row: usize) -> Refusal
-    ensures { λ r. ⌜ r ≡ idRefusal (now (file .entry)) layout place row ⌝ }
+fn judge_id(file: &[u8], order: Order, place: usize, row: usize) -> Refusal
+    ensures { λ r. ⌜ r ≡ idJudged order (now (file .entry)) place row ⌝ }
 {
-    let order = layout.order;
     if number::read4(file, place, order) as usize == row {
         return refusal::no_refusal();
     }
@@ -285,17 +286,24 @@ fn judge_end(reach: Reach, end: usize, row: usize, id: Refusal) -> Refusal
     }
 }
 
-// Where a column starts by its offset, in rows of one width: within the row in any case.
+// Where a field starts by its offset: within the row in any case.
+fn place_within(start: usize, end: usize, offset: usize) -> usize
+    requires { ⌜ start ≤ end ⌝ }
+    ensures { λ r. ⌜ r ≡ min (start + offset) end ⌝ }
+{
+    if offset <= end - start {
+        return start + offset;
+    }
+    end
+}
+
+// Where a column starts by its offset, in rows of one width.
 fn offset_place(layout: Layout, start: usize, end: usize, column: usize) -> usize
     requires { ⌜ (start ≤ end) × (0 < column) × (column ≤ mostColumns) ⌝ }
     ensures { λ r. ⌜ r ≡ offsetPlace layout start end column ⌝ }
 {
     let c = layout.cols[column - 1];
-    let offset = c.offset as usize;
-    if offset <= end - start {
-        return start + offset;
-    }
-    end
+    place_within(start, end, c.offset as usize)
 }
 
 // A row that must be walked: once, for its id and for the column asked for.
@@ -311,7 +319,8 @@ fn find_by_walk(file: &[u8], layout: Layout, start: usize, end: usize, row: usiz
     let places = walk(file, layout, start, end, slots, count_columns(layout));
     let at = places.at;
     let reach = places.reach;
-    let judged = judge_end(reach, end, row, judge_id(file, layout, kept_place(at, slots, id), row));
+    let order = layout.order;
+    let judged = judge_end(reach, end, row, judge_id(file, order, kept_place(at, slots, id), row));
     let place = kept_place(at, slots, column);
     Found { refusal: judged, place: place }
 }
@@ -324,7 +333,8 @@ fn find_by_offset(file: &[u8], layout: Layout, start: usize, end: usize, row: us
     requires { ⌜ noSuchColumn layout column ≡ false ⌝ }
     ensures { λ r. ⌜ r ≡ foundOf (now (file .entry)) layout start end row column ⌝ }
 {
-    let judged = judge_id(file, layout, offset_place(layout, start, end, layout.id), row);
+    let order = layout.order;
+    let judged = judge_id(file, order, offset_place(layout, start, end, layout.id), row);
     let place = offset_place(layout, start, end, column);
     Found { refusal: judged, place: place }
 }
@@ -386,6 +396,15 @@ pub fn judge_row(file: &[u8], layout: Layout, start: usize, end: usize, row: usi
 
 // ---- where rows lie
 
+// The end of a row by its entry, which stands at 8k.
+fn entry_end(index: &[u8], order: Order, k: usize) -> usize
+    requires { ⌜ k < 4294967296 ⌝ }
+    ensures { λ r. ⌜ r ≡ entryEnd order (now (index .entry)) k ⌝ }
+{
+    let at = 8 * k;
+    number::read4(index, at, order) as usize + number::read4(index, at + 4, order) as usize
+}
+
 // The end of row k by its entry; of row 0, where row 1 starts.
 fn end_at(index: &[u8], layout: Layout, k: usize) -> usize
     requires { ⌜ k < 4294967296 ⌝ }
@@ -395,8 +414,15 @@ fn end_at(index: &[u8], layout: Layout, k: usize) -> usize
         return layout.start as usize;
     }
     let order = layout.order;
-    let at = 8 * k;
-    number::read4(index, at, order) as usize + number::read4(index, at + 4, order) as usize
+    entry_end(index, order, k)
+}
+
+// The end of row k where all rows have one width.
+fn fixed_bound(first: u32, width: u32, k: usize) -> usize
+    requires { ⌜ k ≤ mostRows ⌝ }
+    ensures { λ r. ⌜ r ≡ fixedBound first width k ⌝ }
+{
+    first as usize + width as usize * k
 }
 
 // The end of row k, and the start of row k + 1.
@@ -407,7 +433,7 @@ fn bound_of(index: &[u8], layout: Layout, k: usize) -> usize
     if layout.width == 0 {
         return end_at(index, layout, k);
     }
-    layout.start as usize + layout.width as usize * k
+    fixed_bound(layout.start, layout.width, k)
 }
 
 // The end of row k, and the start of row k + 1; past the millionth row, its end.

@@ -23,11 +23,12 @@ use Rattle.side.specs.Successor.{successor, after}
 use Rattle.side.specs.declared.Successor.{Successor}
 use Rattle.side.specs.declared.Successor.the-variants.{Side, Wrong}
 use Rattle.side.proofs.SideLaws.{Sound, successor-sound}
-use Rattle.tile.specs.Columns.{Tile, E, F, R, N, sides, mostRows, sideWith, startSide, emptyAllowed, emptyStart}
+use Rattle.tile.specs.Columns.{Tile, E, F, R, N, sides, mostRows, Regular, sideWith, startSide, emptyAllowed, emptyStart}
 use Rattle.tile.specs.Check.{slicesUnequal, tooManyRows, sizesWrong, refusedSide, edgeSideRefusal, tests, verdict, verdictOf, marksLeft, marksAfter}
 use Rattle.tile.specs.Stages.{edgeTests, ringTests, ownerTests, startMissing, startOf, lacksStart, ownersPainted, ringsOf, ownersOf, afterEdges, laterTests, marksJudged}
 use Rattle.tile.specs.declared.Verdict.{Verdict}
 use Rattle.tile.specs.declared.Verdict.the-variants.{Accepted, Refused}
+use Rattle.tile.proofs.TestsInWords.{sizes-exactly}
 use Rattle.tile.proofs.OwnerLaws.{all-painted}
 
 or-false : (a b : Bool) → (a || b) ≡ false → (a ≡ false) × (b ≡ false)
@@ -43,6 +44,10 @@ rows-within t e =
     let c = or-false (ltb mostRows (F t)) (ltb mostRows (R t) || ltb mostRows (N t)) (b .1) in
     let d = or-false (ltb mostRows (R t)) (ltb mostRows (N t)) (c .1) in
     (ltb-false mostRows (E t) (b .0), ltb-false mostRows (R t) (d .0))
+
+-- and the columns of the edge table have one length
+pub regular : (t : Tile) → sizesWrong t ≡ false → Regular (t .edg)
+regular t e = let s = sizes-exactly t .0 e in (s .edge-rows, s .end-node, s .right-face, s .left-face, s .right-edge, s .left-edge)
 
 -- ---- the edges' tests passed: every side has a successor
 pub sides-fine : (t : Edges) (faces nodes : ℕ) → firstOf (edgeTests t faces nodes) .number ≡ 0 → lowestOf (edgeSideRefusal t) (sideCount t) ≡ fine

@@ -10,3 +10,4 @@ pub mod RunLaws
 pub mod OwnerLaws
 pub mod JudgeLaws
 pub mod WalkLaws
+pub mod SuccessorLaws

@@ -8,13 +8,14 @@ use native.Mathlib.Numerals.{add-one}
 use lib.Dec.{eqb, ltb}
 use lib.ListN.{length, getD}
 use native.Mathlib.Omega.{arith}
-use borrow.Author.Tests.{eq-eqb, ltb-false}
+use borrow.Author.Tests.{eq-eqb, ne-eqb, ltb-false}
 use Rattle.laws.specs.Sums.{Into, Inj}
 use Rattle.laws.specs.Orbit.{entry, firstDoubled, firstTaken}
 use Rattle.laws.specs.Buffer.{front}
-use Rattle.laws.specs.Marks.{zeros, ownerAt, Starts}
+use Rattle.laws.specs.Marks.{zeros, count, ownerAt, Starts}
 use Rattle.laws.specs.Lowest.{lowest}
 use Rattle.laws.proofs.LowestLaws.{bool-cases, lowest-zero}
+use Rattle.laws.proofs.BufferLaws.{front-over}
 use Rattle.laws.proofs.MarkLaws.{single, over-front}
 use Rattle.refusal.specs.declared.Refusal.{Refusal}
 use Rattle.refusal.specs.Order.{fine, lowestOf}
@@ -26,7 +27,7 @@ use Rattle.side.specs.declared.Successor.the-variants.{Side, Wrong}
 use Rattle.side.proofs.SideLaws.{not-outside, Sound, successor-sound}
 use Rattle.tile.specs.Columns.{sideWith}
 use Rattle.tile.specs.Check.{refusedSide, edgeSideRefusal}
-use Rattle.tile.specs.Stages.{startOf, lacksStart, ownersPainted}
+use Rattle.tile.specs.Stages.{tallied, startOf, lacksStart, ownersPainted}
 
 -- a side that is not refused has a successor among the sides
 sound-goes : (n s : ℕ) (c : Successor) → Sound n c → refusedSide s c .number ≤ 0 → (0 < sideOf c) × (sideOf c ≤ n)
@@ -109,3 +110,28 @@ pub all-painted : (t : Edges) (fi se d m : List ℕ) → firstTaken (after t) (s
     → m ≡ front (ownerAt (after t) (sideCount t) (startOf t fi se) (length fi)) (sideCount t) d
 unfolding ownersPainted
 all-painted t fi se d m z e = rw z at e
+
+pub fronted : (g : ℕ → ℕ) (n : ℕ) (d m : List ℕ) → m ≡ front g n d → m ≡ front g n m
+fronted g n d m q = q ∙ sym (front-over g g n d) ∙ ap (front g n) (sym q)
+
+-- ---- the predecessors counted: the marks where a side has no successor, and where all have one
+module _ (t : Edges) (d : List ℕ) (q : Refusal) where
+  pub tally-cleared : (q .number ≡ 0 → ⊥) → (g : ℕ → ℕ) (m e : List ℕ) → m ≡ front g (sideCount t) d → e ≡ front zeros (sideCount t) m → e ≡ tallied t q d
+  unfolding tallied
+  tally-cleared z g m e u v = rw (ne-eqb (q .number) 0 z) (over-front zeros g (sideCount t) d m e u v)
+
+  pub tally-zero : (q .number ≡ 0 → ⊥) → d ≡ front zeros (sideCount t) d → d ≡ tallied t q d
+  unfolding tallied
+  tally-zero z u = rw (ne-eqb (q .number) 0 z) u
+
+  pub tally-whole : q .number ≡ 0 → (e : List ℕ) → e ≡ front (count (after t) (sideCount t)) (sideCount t) d → e ≡ tallied t q d
+  unfolding tallied
+  tally-whole z e u = rw (eq-eqb (q .number) 0 z) u
+
+  pub tally-fine : q .number ≡ 0 → (e : List ℕ) → e ≡ tallied t q d → e ≡ front (count (after t) (sideCount t)) (sideCount t) d
+  unfolding tallied
+  tally-fine z e u = rw (eq-eqb (q .number) 0 z) at u
+
+  pub tally-refused : (q .number ≡ 0 → ⊥) → (e : List ℕ) → e ≡ tallied t q d → e ≡ front zeros (sideCount t) d
+  unfolding tallied
+  tally-refused z e u = rw (ne-eqb (q .number) 0 z) at u

@@ -9,14 +9,16 @@ use native.Mathlib.Omega.{arith}
 use borrow.Author.Tests.{eq-eqb, ne-eqb, lt-ltb, le-ltb}
 use Rattle.laws.specs.Orbit.{entry}
 use Rattle.side.specs.Edges.{Edges, outside}
-use Rattle.side.specs.Successor.{successor}
+use Rattle.side.specs.Successor.{successor, after}
+use Rattle.side.specs.declared.Successor.{Successor}
 use Rattle.side.specs.declared.Successor.the-variants.{Side, Wrong}
 use Rattle.refusal.specs.declared.Refusal.{Refusal}
 use Rattle.refusal.specs.Order.{refusal}
+use Rattle.tile.proofs.SuccessorLaws.{nowhere-to-go}
 use Rattle.tile.specs.Columns.{Tile, E, F, R, sideWith, startSide, emptyStart}
 use Rattle.tile.specs.Check.{sizesWrong, startWrong}
 use Rattle.tile.specs.Stages.{startMissing, pathWritten}
-use Rattle.tile.specs.Walk.{stuckAt, movesFrom, moves, walked, walkOf, sidesWritten}
+use Rattle.tile.specs.Walk.{stuckAt, onMove, movesFrom, moves, walked, walkOf, sidesWritten}
 use Rattle.tile.specs.declared.Walked.{Walked}
 use Rattle.tile.specs.declared.Walked.the-variants.{Steps, Refused}
 use Rattle.tile.specs.declared.Moves.{Moves}
@@ -28,6 +30,11 @@ module _ (t : Edges) (a n s k : ℕ) (x : Moves) (e : x ≡ movesFrom t a (n - k
 
   pub cannot-move : (w : ℕ) (q : Refusal) → k < n → successor t s ≡ Wrong w → q ≡ stuckAt w s → Stuck q ≡ x
   cannot-move w q h f g = ap Stuck g ∙ sym (rw f at (opened h))
+
+  pub stops-here : (u : ℕ) (r : Moves) → k < n → u ≡ after t s → u ≡ 0 → r ≡ onMove s (successor t s) (λ v. Open) → r ≡ x
+  stops-here u r h f z g =
+      let w = nowhere-to-go t s u f z in
+      g ∙ ap (λ (c : Successor). onMove s c (λ v. Open)) (w .1) ∙ cannot-move (w .0) (stuckAt (w .0) s) h (w .1) refl
 
   pub back-home : (u : ℕ) → k < n → successor t s ≡ Side u → u ≡ a → Back (k + 1) ≡ x
   back-home u h f z = rw add-one (sym (rw (f, eq-eqb u a z) at (opened h)))

@@ -1,7 +1,8 @@
 -- A tile as ten columns of numbers. Rows count from 1; 0 stands for none.
+use mathlib.Core.Path.{_≡_}
 use mathlib.Core.Bool.{Bool, true, false, cond, not, _&&_, _||_}
 use mathlib.Core.List.{List}
-use Prim.Native.Nat.{ℕ, _*_}
+use Prim.Native.Nat.{ℕ, _*_, _≤_}
 use lib.Dec.{eqb, ltb}
 use lib.ListN.{length}
 use Rattle.laws.specs.Orbit.{entry}
@@ -36,6 +37,16 @@ sides t = 2 * E t
 -- "over 1,000,000 rows"
 abbrev pub mostRows : ℕ
 mostRows = 1000000
+
+-- the columns of one edge table, of right sizes
+abbrev pub Regular : Edges → Type 0
+Regular t =
+    (edgeCount t ≤ mostRows)
+    × (length (t .endNode) ≡ edgeCount t)
+    × (length (t .rightFace) ≡ edgeCount t)
+    × (length (t .leftFace) ≡ edgeCount t)
+    × (length (t .rightEdge) ≡ edgeCount t)
+    × (length (t .leftEdge) ≡ edgeCount t)
 
 -- "The start side is the one with the ring's face; if both have it, the right one."
 -- Of the edge e, of `edgeRows` with these faces: 0 where e is none of 1..E or neither side has the face f

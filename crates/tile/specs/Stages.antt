@@ -6,7 +6,7 @@ use lib.Dec.{eqb, ltb}
 use lib.ListN.{length}
 use Rattle.laws.specs.Lowest.{lowest}
 use Rattle.laws.specs.Buffer.{front}
-use Rattle.laws.specs.Marks.{zeros, ownerAt}
+use Rattle.laws.specs.Marks.{zeros, count, ownerAt}
 use Rattle.laws.specs.Orbit.{entry, iterate, firstTaken, firstUnmet, firstDoubled}
 use Rattle.refusal.specs.declared.Refusal.{Refusal}
 use Rattle.refusal.specs.Order.{located, lowestOf}
@@ -25,6 +25,10 @@ edgeTests t faces nodes =
     ∷ located 22 (lowest (rowOutside (edgeCount t) (t .rightEdge) (t .leftEdge)) (edgeCount t))
     ∷ lowestOf (edgeSideRefusal t) (sideCount t)
     ∷ []
+
+-- the marks after these tests: each side's predecessors, up to two, or zeros where one refuses
+unfoldable pub tallied : Edges → Refusal → List ℕ → List ℕ
+tallied t q d = front (cond (eqb (q .number) 0) (count (after t) (sideCount t)) zeros) (sideCount t) d
 
 -- 29: of a ring with the face f and the start edge e, in a tile with so many edges, faces and rings
 unfoldable pub startMissing : ℕ → ℕ → ℕ → List ℕ → List ℕ → ℕ → ℕ → Bool

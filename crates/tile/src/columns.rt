@@ -1,16 +1,20 @@
 // 20 to 25, 27 and 28's range: tests over the rows of the columns, and over the sides.
+use crate::owners;
+use crate::successors;
 use refusal::Refusal;
 use side::Successor;
 ghost use mathlib.Core.Path.{_≡_};
 ghost use mathlib.Core.List.{[], _∷_};
-ghost use Prim.Native.Nat.{ℕ, _≤_};
+ghost use Prim.Native.Nat.{ℕ, _*_, _≤_};
 ghost use lib.ListN.{length};
 ghost use Rattle.laws.specs.Orbit.{entry};
 ghost use Rattle.laws.specs.Lowest.{lowest};
-ghost use Rattle.refusal.specs.Order.{located, firstOf, lowestOf};
+ghost use Rattle.laws.specs.Buffer.{front};
+ghost use Rattle.laws.specs.Marks.{zeros};
+ghost use Rattle.refusal.specs.Order.{located, firstOf};
 ghost use Rattle.side.specs.Edges.{Edges, edges, edgeCount, sideCount, outside};
-ghost use Rattle.tile.specs.Columns.{mostRows};
-ghost use Rattle.tile.specs.Stages.{edgeTests};
+ghost use Rattle.tile.specs.Columns.{Regular};
+ghost use Rattle.tile.specs.Stages.{edgeTests, tallied};
 ghost use Rattle.tile.specs.Check.{rowOutside, entryOutside, edgeAway, edgeSideRefusal};
 
 // Whether x is none of 1..most.
@@ -98,7 +102,7 @@ pub(crate) fn bad_node(start_node: &[u32], end_node: &[u32], first_edge: &[u32])
 }
 
 // What is wrong at the side s.
-fn judge_side(
+pub(crate) fn judge_side(
     start_node: &[u32],
     end_node: &[u32],
     right_face: &[u32],
@@ -107,8 +111,22 @@ fn judge_side(
     left_edge: &[u32],
     s: usize,
 ) -> Refusal
+    requires { ⌜ Regular (edges (now «start_node») (now «end_node») (now «right_face») (now «left_face») (now «right_edge») (now «left_edge»)) ⌝ }
+    requires { ⌜ s ≤ 2 * length (now «start_node») ⌝ }
     ensures { λ r. ⌜ r ≡ edgeSideRefusal (edges (now («start_node» .entry)) (now («end_node» .entry)) (now («right_face» .entry)) (now («left_face» .entry)) (now («right_edge» .entry)) (now («left_edge» .entry))) s ⌝ }
 {
+    let u = successors::side_after(
+        start_node,
+        end_node,
+        right_face,
+        left_face,
+        right_edge,
+        left_edge,
+        s,
+    );
+    if u != 0 {
+        return refusal::no_refusal();
+    }
     match side::next_side(
         start_node,
         end_node,
@@ -123,39 +141,7 @@ fn judge_side(
     }
 }
 
-// What is wrong at the lowest side that has no successor.
-fn judge_sides(
-    start_node: &[u32],
-    end_node: &[u32],
-    right_face: &[u32],
-    left_face: &[u32],
-    right_edge: &[u32],
-    left_edge: &[u32],
-) -> Refusal
-    requires { ⌜ length (now «start_node») ≤ mostRows ⌝ }
-    ensures { λ r. ⌜ r ≡ lowestOf (edgeSideRefusal (edges (now («start_node» .entry)) (now («end_node» .entry)) (now («right_face» .entry)) (now («left_face» .entry)) (now («right_edge» .entry)) (now («left_edge» .entry)))) (sideCount (edges (now («start_node» .entry)) (now («end_node» .entry)) (now («right_face» .entry)) (now («left_face» .entry)) (now («right_edge» .entry)) (now («left_edge» .entry)))) ⌝ }
-{
-    let n = 2 * start_node.len();
-    let mut i: usize = 0;
-    while i < n {
-        let q = judge_side(
-            start_node,
-            end_node,
-            right_face,
-            left_face,
-            right_edge,
-            left_edge,
-            i + 1,
-        );
-        if q.number != 0 {
-            return q;
-        }
-        i += 1;
-    }
-    refusal::no_refusal()
-}
-
-// 20 to 25, in order.
+// 20 to 25, in order. The marks are zero before; where nothing is refused they count each side's predecessors.
 pub(crate) fn judge_edges(
     start_node: &[u32],
     end_node: &[u32],
@@ -165,9 +151,13 @@ pub(crate) fn judge_edges(
     left_edge: &[u32],
     faces: usize,
     nodes: usize,
+    marks: &mut [u32],
 ) -> Refusal
-    requires { ⌜ length (now «start_node») ≤ mostRows ⌝ }
+    requires { ⌜ Regular (edges (now «start_node») (now «end_node») (now «right_face») (now «left_face») (now «right_edge») (now «left_edge»)) ⌝ }
+    requires { ⌜ 2 * length (now «start_node») ≤ length (now marks) ⌝ }
+    requires { ⌜ now marks ≡ front zeros (2 * length (now «start_node»)) (now marks) ⌝ }
     ensures { λ r. ⌜ r ≡ firstOf (edgeTests (edges (now («start_node» .entry)) (now («end_node» .entry)) (now («right_face» .entry)) (now («left_face» .entry)) (now («right_edge» .entry)) (now («left_edge» .entry))) faces nodes) ⌝ }
+    ensures { λ r. ⌜ now (marks .exit) ≡ tallied (edges (now («start_node» .entry)) (now («end_node» .entry)) (now («right_face» .entry)) (now («left_face» .entry)) (now («right_edge» .entry)) (now («left_edge» .entry))) r (now (marks .entry)) ⌝ }
 {
     let n = start_node.len();
     let a = refusal::refuse_at(20, bad_row(nodes, n, start_node, end_node));
@@ -182,12 +172,13 @@ pub(crate) fn judge_edges(
     if c.number != 0 {
         return c;
     }
-    judge_sides(
+    owners::tally(
         start_node,
         end_node,
         right_face,
         left_face,
         right_edge,
         left_edge,
+        marks,
     )
 }

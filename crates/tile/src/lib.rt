@@ -5,6 +5,7 @@ mod paths;
 mod runs;
 mod sizes;
 mod starts;
+mod successors;
 
 use refusal::Refusal;
 ghost use mathlib.Core.Path.{_≡_};
@@ -54,6 +55,7 @@ fn judge(
     ensures { λ r. ⌜ now (marks .exit) ≡ marksJudged (tile (edges (now («start_node» .entry)) (now («end_node» .entry)) (now («right_face» .entry)) (now («left_face» .entry)) (now («right_edge» .entry)) (now («left_edge» .entry))) (now («ring_ptr» .entry)) (now («fac_id» .entry)) (now («start_edge» .entry)) (now («first_edge» .entry))) r (now (marks .entry)) ⌝ }
 {
     let n = 2 * start_node.len();
+    owners::clear(marks, n);
     let a = columns::judge_edges(
         start_node,
         end_node,
@@ -63,9 +65,9 @@ fn judge(
         left_edge,
         ring_ptr.len(),
         first_edge.len(),
+        marks,
     );
     if a.number != 0 {
-        owners::clear(marks, n);
         return a;
     }
     let b = refusal::refuse_at(

@@ -1,7 +1,8 @@
 // 26, 30 and 31, with a mark for each side in the lent owner marks: the predecessors counted, and the rings' walks painted.
+use crate::columns;
 use crate::starts;
+use crate::successors;
 use refusal::Refusal;
-use side::Successor;
 ghost use mathlib.Core.Path.{_≡_};
 ghost use Prim.Native.Nat.{ℕ, suc, min, _+_, _*_, _≤_, _<_};
 ghost use lib.Dec.{eqb};
@@ -13,35 +14,9 @@ ghost use Rattle.laws.specs.Marks.{zeros, count, painted};
 ghost use Rattle.refusal.specs.Order.{fine, lowestOf, firstOf};
 ghost use Rattle.side.specs.Edges.{edges, sideCount};
 ghost use Rattle.side.specs.Successor.{after};
-ghost use Rattle.tile.specs.Columns.{mostRows};
+ghost use Rattle.tile.specs.Columns.{mostRows, Regular};
 ghost use Rattle.tile.specs.Check.{edgeSideRefusal};
-ghost use Rattle.tile.specs.Stages.{startOf, lacksStart, ownerTests, ownersPainted};
-
-// The successor of the side s, or 0 where there is none.
-pub(crate) fn side_after(
-    start_node: &[u32],
-    end_node: &[u32],
-    right_face: &[u32],
-    left_face: &[u32],
-    right_edge: &[u32],
-    left_edge: &[u32],
-    s: usize,
-) -> usize
-    ensures { λ r. ⌜ r ≡ after (edges (now («start_node» .entry)) (now («end_node» .entry)) (now («right_face» .entry)) (now («left_face» .entry)) (now («right_edge» .entry)) (now («left_edge» .entry))) s ⌝ }
-{
-    match side::next_side(
-        start_node,
-        end_node,
-        right_face,
-        left_face,
-        right_edge,
-        left_edge,
-        s,
-    ) {
-        Successor::Side(u) => u,
-        Successor::Wrong(_) => 0,
-    }
-}
+ghost use Rattle.tile.specs.Stages.{tallied, startOf, lacksStart, ownerTests, ownersPainted};
 
 // Sets the first n marks to zero.
 pub(crate) fn clear(marks: &mut [u32], n: usize)
@@ -77,8 +52,9 @@ fn one_more(m: u32) -> u32
     if m < 2 { m + 1 } else { 2 }
 }
 
-// Counts the predecessors of each side, up to two. The marks are zero before.
-fn tally(
+// 23 to 25 at the lowest side that has no successor; where all have one, the predecessors of each side are counted, up to two. The marks
+// are zero before.
+pub(crate) fn tally(
     start_node: &[u32],
     end_node: &[u32],
     right_face: &[u32],
@@ -86,17 +62,17 @@ fn tally(
     right_edge: &[u32],
     left_edge: &[u32],
     marks: &mut [u32],
-)
-    requires { ⌜ length (now «start_node») ≤ mostRows ⌝ }
-    requires { ⌜ lowestOf (edgeSideRefusal (edges (now «start_node») (now «end_node») (now «right_face») (now «left_face») (now «right_edge») (now «left_edge»))) (sideCount (edges (now «start_node») (now «end_node») (now «right_face») (now «left_face») (now «right_edge») (now «left_edge»))) ≡ fine ⌝ }
+) -> Refusal
+    requires { ⌜ Regular (edges (now «start_node») (now «end_node») (now «right_face») (now «left_face») (now «right_edge») (now «left_edge»)) ⌝ }
     requires { ⌜ 2 * length (now «start_node») ≤ length (now marks) ⌝ }
     requires { ⌜ now marks ≡ front zeros (2 * length (now «start_node»)) (now marks) ⌝ }
-    ensures { λ _. ⌜ now (marks .exit) ≡ front (count (after (edges (now («start_node» .entry)) (now («end_node» .entry)) (now («right_face» .entry)) (now («left_face» .entry)) (now («right_edge» .entry)) (now («left_edge» .entry)))) (2 * length (now («start_node» .entry)))) (2 * length (now («start_node» .entry))) (now (marks .entry)) ⌝ }
+    ensures { λ r. ⌜ r ≡ lowestOf (edgeSideRefusal (edges (now («start_node» .entry)) (now («end_node» .entry)) (now («right_face» .entry)) (now («left_face» .entry)) (now («right_edge» .entry)) (now («left_edge» .entry)))) (sideCount (edges (now («start_node» .entry)) (now («end_node» .entry)) (now («right_face» .entry)) (now («left_face» .entry)) (now («right_edge» .entry)) (now («left_edge» .entry)))) ⌝ }
+    ensures { λ r. ⌜ now (marks .exit) ≡ tallied (edges (now («start_node» .entry)) (now («end_node» .entry)) (now («right_face» .entry)) (now («left_face» .entry)) (now («right_edge» .entry)) (now («left_edge» .entry))) r (now (marks .entry)) ⌝ }
 {
     let n = 2 * start_node.len();
     let mut i: usize = 0;
     while i < n {
-        let u = side_after(
+        let u = successors::side_after(
             start_node,
             end_node,
             right_face,
@@ -105,13 +81,26 @@ fn tally(
             left_edge,
             i + 1,
         );
+        if u == 0 {
+            clear(marks, n);
+            return columns::judge_side(
+                start_node,
+                end_node,
+                right_face,
+                left_face,
+                right_edge,
+                left_edge,
+                i + 1,
+            );
+        }
         let j = u - 1;
         marks[j] = one_more(marks[j]);
         i += 1;
     }
+    refusal::no_refusal()
 }
 
-// 26: the lowest side with more than one predecessor, or 0. The marks hold the counts after.
+// 26: the lowest side with more than one predecessor, or 0, where the marks hold the counts.
 pub(crate) fn doubled(
     start_node: &[u32],
     end_node: &[u32],
@@ -119,26 +108,14 @@ pub(crate) fn doubled(
     left_face: &[u32],
     right_edge: &[u32],
     left_edge: &[u32],
-    marks: &mut [u32],
+    marks: &[u32],
 ) -> usize
     requires { ⌜ length (now «start_node») ≤ mostRows ⌝ }
-    requires { ⌜ lowestOf (edgeSideRefusal (edges (now «start_node») (now «end_node») (now «right_face») (now «left_face») (now «right_edge») (now «left_edge»))) (sideCount (edges (now «start_node») (now «end_node») (now «right_face») (now «left_face») (now «right_edge») (now «left_edge»))) ≡ fine ⌝ }
     requires { ⌜ 2 * length (now «start_node») ≤ length (now marks) ⌝ }
+    requires { ⌜ now marks ≡ front (count (after (edges (now «start_node») (now «end_node») (now «right_face») (now «left_face») (now «right_edge») (now «left_edge»))) (2 * length (now «start_node»))) (2 * length (now «start_node»)) (now marks) ⌝ }
     ensures { λ r. ⌜ r ≡ firstDoubled (after (edges (now («start_node» .entry)) (now («end_node» .entry)) (now («right_face» .entry)) (now («left_face» .entry)) (now («right_edge» .entry)) (now («left_edge» .entry)))) (2 * length (now («start_node» .entry))) ⌝ }
-    ensures { λ r. ⌜ now (marks .exit) ≡ front (count (after (edges (now («start_node» .entry)) (now («end_node» .entry)) (now («right_face» .entry)) (now («left_face» .entry)) (now («right_edge» .entry)) (now («left_edge» .entry)))) (2 * length (now («start_node» .entry)))) (2 * length (now («start_node» .entry))) (now (marks .entry)) ⌝ }
 {
-    let n = 2 * start_node.len();
-    clear(marks, n);
-    tally(
-        start_node,
-        end_node,
-        right_face,
-        left_face,
-        right_edge,
-        left_edge,
-        marks,
-    );
-    find(marks, n, 2)
+    find(marks, 2 * start_node.len(), 2)
 }
 
 // Paints the sides of the walk from start with the row, until start returns; none where start is 0.
@@ -153,7 +130,7 @@ fn paint(
     row: u32,
     marks: &mut [u32],
 )
-    requires { ⌜ length (now «start_node») ≤ mostRows ⌝ }
+    requires { ⌜ Regular (edges (now «start_node») (now «end_node») (now «right_face») (now «left_face») (now «right_edge») (now «left_edge»)) ⌝ }
     requires { ⌜ lowestOf (edgeSideRefusal (edges (now «start_node») (now «end_node») (now «right_face») (now «left_face») (now «right_edge») (now «left_edge»))) (sideCount (edges (now «start_node») (now «end_node») (now «right_face») (now «left_face») (now «right_edge») (now «left_edge»))) ≡ fine ⌝ }
     requires { ⌜ firstDoubled (after (edges (now «start_node») (now «end_node») (now «right_face») (now «left_face») (now «right_edge») (now «left_edge»))) (2 * length (now «start_node»)) ≡ 0 ⌝ }
     requires { ⌜ 2 * length (now «start_node») ≤ length (now marks) ⌝ }
@@ -167,7 +144,7 @@ fn paint(
     let mut s = start;
     let mut k: usize = 0;
     while k < n {
-        s = side_after(
+        s = successors::side_after(
             start_node,
             end_node,
             right_face,
@@ -197,7 +174,7 @@ fn own(
     start_edge: &[u32],
     marks: &mut [u32],
 ) -> usize
-    requires { ⌜ (length (now «start_node») ≤ mostRows) × (length (now «fac_id») ≤ mostRows) ⌝ }
+    requires { ⌜ Regular (edges (now «start_node») (now «end_node») (now «right_face») (now «left_face») (now «right_edge») (now «left_edge»)) × (length (now «fac_id») ≤ mostRows) ⌝ }
     requires { ⌜ lowestOf (edgeSideRefusal (edges (now «start_node») (now «end_node») (now «right_face») (now «left_face») (now «right_edge») (now «left_edge»))) (sideCount (edges (now «start_node») (now «end_node») (now «right_face») (now «left_face») (now «right_edge») (now «left_edge»))) ≡ fine ⌝ }
     requires { ⌜ firstDoubled (after (edges (now «start_node») (now «end_node») (now «right_face») (now «left_face») (now «right_edge») (now «left_edge»))) (2 * length (now «start_node»)) ≡ 0 ⌝ }
     requires { ⌜ 2 * length (now «start_node») ≤ length (now marks) ⌝ }
@@ -242,7 +219,7 @@ pub(crate) fn judge_owners(
     start_edge: &[u32],
     marks: &mut [u32],
 ) -> Refusal
-    requires { ⌜ (length (now «start_node») ≤ mostRows) × (length (now «fac_id») ≤ mostRows) ⌝ }
+    requires { ⌜ Regular (edges (now «start_node») (now «end_node») (now «right_face») (now «left_face») (now «right_edge») (now «left_edge»)) × (length (now «fac_id») ≤ mostRows) ⌝ }
     requires { ⌜ lowestOf (edgeSideRefusal (edges (now «start_node») (now «end_node») (now «right_face») (now «left_face») (now «right_edge») (now «left_edge»))) (sideCount (edges (now «start_node») (now «end_node») (now «right_face») (now «left_face») (now «right_edge») (now «left_edge»))) ≡ fine ⌝ }
     requires { ⌜ firstDoubled (after (edges (now «start_node») (now «end_node») (now «right_face») (now «left_face») (now «right_edge») (now «left_edge»))) (2 * length (now «start_node»)) ≡ 0 ⌝ }
     requires { ⌜ 2 * length (now «start_node») ≤ length (now marks) ⌝ }

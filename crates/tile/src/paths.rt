@@ -1,7 +1,7 @@
 // The walk from a start side: its moves counted, then its sides written.
 use crate::Moves;
 use crate::Walked;
-use crate::owners;
+use crate::successors;
 use refusal::Refusal;
 use side::Successor;
 ghost use mathlib.Core.Path.{_≡_};
@@ -10,9 +10,10 @@ ghost use lib.ListN.{length};
 ghost use Rattle.laws.specs.Orbit.{iterate};
 ghost use Rattle.laws.specs.Buffer.{front};
 ghost use Rattle.side.specs.Edges.{edges};
-ghost use Rattle.side.specs.Successor.{after};
-ghost use Rattle.tile.specs.Columns.{mostRows};
-ghost use Rattle.tile.specs.Walk.{stuckAt, moves, walked};
+ghost use Rattle.side.specs.Successor.{successor, after};
+ghost use Rattle.tile.specs.declared.Moves.the-variants.{Open};
+ghost use Rattle.tile.specs.Columns.{Regular};
+ghost use Rattle.tile.specs.Walk.{stuckAt, onMove, moves, walked};
 ghost use Rattle.tile.specs.Stages.{pathWritten};
 
 // A move that cannot be made: 22 has the edge row as place, 23 to 25 the side.
@@ -25,6 +26,32 @@ fn stuck_at(number: u32, s: usize) -> Refusal
     refusal::refuse(number, s)
 }
 
+// What a walk comes to at a side that has no successor.
+fn get_stuck(
+    start_node: &[u32],
+    end_node: &[u32],
+    right_face: &[u32],
+    left_face: &[u32],
+    right_edge: &[u32],
+    left_edge: &[u32],
+    s: usize,
+) -> Moves
+    ensures { λ r. ⌜ r ≡ onMove s (successor (edges (now («start_node» .entry)) (now («end_node» .entry)) (now («right_face» .entry)) (now («left_face» .entry)) (now («right_edge» .entry)) (now («left_edge» .entry))) s) (λ u. Open) ⌝ }
+{
+    match side::next_side(
+        start_node,
+        end_node,
+        right_face,
+        left_face,
+        right_edge,
+        left_edge,
+        s,
+    ) {
+        Successor::Side(_) => Moves::Open,
+        Successor::Wrong(number) => Moves::Stuck(stuck_at(number, s)),
+    }
+}
+
 // The successor moves from start until it returns, at most 2E.
 fn count_moves(
     start_node: &[u32],
@@ -35,14 +62,15 @@ fn count_moves(
     left_edge: &[u32],
     start: usize,
 ) -> Moves
-    requires { ⌜ length (now «start_node») ≤ mostRows ⌝ }
+    requires { ⌜ Regular (edges (now «start_node») (now «end_node») (now «right_face») (now «left_face») (now «right_edge») (now «left_edge»)) ⌝ }
+    requires { ⌜ start ≤ 2 * length (now «start_node») ⌝ }
     ensures { λ r. ⌜ r ≡ moves (edges (now («start_node» .entry)) (now («end_node» .entry)) (now («right_face» .entry)) (now («left_face» .entry)) (now («right_edge» .entry)) (now («left_edge» .entry))) start ⌝ }
 {
     let n = 2 * start_node.len();
     let mut s = start;
     let mut k: usize = 0;
     while k < n {
-        match side::next_side(
+        let u = successors::side_after(
             start_node,
             end_node,
             right_face,
@@ -50,14 +78,19 @@ fn count_moves(
             right_edge,
             left_edge,
             s,
-        ) {
-            Successor::Side(u) => {
-                s = u;
-            }
-            Successor::Wrong(number) => {
-                return Moves::Stuck(stuck_at(number, s));
-            }
+        );
+        if u == 0 {
+            return get_stuck(
+                start_node,
+                end_node,
+                right_face,
+                left_face,
+                right_edge,
+                left_edge,
+                s,
+            );
         }
+        s = u;
         k += 1;
         if s == start {
             return Moves::Back(k);
@@ -78,7 +111,7 @@ fn write_sides(
     k: usize,
     out: &mut [u32],
 )
-    requires { ⌜ length (now «start_node») ≤ mostRows ⌝ }
+    requires { ⌜ Regular (edges (now «start_node») (now «end_node») (now «right_face») (now «left_face») (now «right_edge») (now «left_edge»)) ⌝ }
     requires { ⌜ start ≤ 2 * length (now «start_node») ⌝ }
     requires { ⌜ k ≤ length (now out) ⌝ }
     ensures { λ _. ⌜ now (out .exit) ≡ front (λ (i : ℕ). iterate (after (edges (now («start_node» .entry)) (now («end_node» .entry)) (now («right_face» .entry)) (now («left_face» .entry)) (now («right_edge» .entry)) (now («left_edge» .entry)))) i start) k (now (out .entry)) ⌝ }
@@ -87,7 +120,7 @@ fn write_sides(
     let mut j: usize = 0;
     while j < k {
         out[j] = s as u32;
-        s = owners::side_after(
+        s = successors::side_after(
             start_node,
             end_node,
             right_face,
@@ -112,7 +145,7 @@ pub(crate) fn walk_from(
     r: usize,
     out: &mut [u32],
 ) -> Walked
-    requires { ⌜ length (now «start_node») ≤ mostRows ⌝ }
+    requires { ⌜ Regular (edges (now «start_node») (now «end_node») (now «right_face») (now «left_face») (now «right_edge») (now «left_edge»)) ⌝ }
     requires { ⌜ start ≤ 2 * length (now «start_node») ⌝ }
     ensures { λ w. ⌜ w ≡ walked r (length (now (out .entry))) (moves (edges (now («start_node» .entry)) (now («end_node» .entry)) (now («right_face» .entry)) (now («left_face» .entry)) (now («right_edge» .entry)) (now («left_edge» .entry))) start) ⌝ }
     ensures { λ w. ⌜ now (out .exit) ≡ pathWritten (edges (now («start_node» .entry)) (now («end_node» .entry)) (now («right_face» .entry)) (now («left_face» .entry)) (now («right_edge» .entry)) (now («left_edge» .entry))) start w (now (out .entry)) ⌝ }

@@ -1,8 +1,5 @@
-use Rattle.load.proofs.TopLaws.{found-early, found-late, few-rows}
-use Rattle.load.specs.Load.{openedAll}
+use Rattle.load.proofs.TopLaws.{found-early, found-late}
 use Rattle.load.specs.Sources.{files}
-use Rattle.load.specs.declared.OpenedTables.{OpenedTables}
-use mathlib.Core.Path.{ap}
 use borrow.Author.Needs.{needs}
 use Rattle.load.proofs.judge.Statement.{statement}
 use Rattle.load.proofs.judge.Tie as tie
@@ -31,10 +28,7 @@ returns c =
 
 -- src/lib.rt:160:9
 judge-all-rows-requires : tie.Need-judge-all-rows-requires
-unfolding openedAll
-judge-all-rows-requires c κs =
-    let s = (c .before .before .before .before .before .before .before .before .before .before .before .before .before .before .before .args) in
-    few-rows (files (s .edg .now) (s .edx .now) (s .fac .now) (s .fax .now) (s .rng .now) (s .rnx .now) (s .cnd .now) (s .cnx .now)) (s .most) _ (ap (λ (o : OpenedTables). o .tables) ((c .before .before .before .before .before .before .open-all) .ensures))
+judge-all-rows-requires c κs = search needs
 
 -- src/lib.rt:150:1
 returns-2 : tie.Need-returns-2

@@ -5,7 +5,7 @@ use Rattle.load.proofs.judge_all_rows.Tie as tie
 
 -- src/lib.rt:140:34
 judge-rows-requires : tie.Need-judge-rows-requires
-judge-rows-requires c κs = (c .before .before .before .before .before .before .before .before .pre) .0
+judge-rows-requires c κs = search needs
 
 -- src/lib.rt:140:9
 find-requires : tie.Need-find-requires
@@ -13,7 +13,7 @@ find-requires c κs = search needs
 
 -- src/lib.rt:141:34
 judge-rows-requires-2 : tie.Need-judge-rows-requires-2
-judge-rows-requires-2 c κs = (c .before .before .before .before .before .before .before .before .before .before .pre) .1
+judge-rows-requires-2 c κs = search needs
 
 -- src/lib.rt:141:9
 find-requires-2 : tie.Need-find-requires-2
@@ -21,7 +21,7 @@ find-requires-2 c κs = search needs
 
 -- src/lib.rt:142:34
 judge-rows-requires-3 : tie.Need-judge-rows-requires-3
-judge-rows-requires-3 c κs = (c .before .before .before .before .before .before .before .before .before .before .before .before .pre) .2
+judge-rows-requires-3 c κs = search needs
 
 -- src/lib.rt:142:9
 find-requires-3 : tie.Need-find-requires-3
@@ -29,7 +29,7 @@ find-requires-3 c κs = search needs
 
 -- src/lib.rt:143:34
 judge-rows-requires-4 : tie.Need-judge-rows-requires-4
-judge-rows-requires-4 c κs = (c .before .before .before .before .before .before .before .before .before .before .before .before .before .before .pre) .3
+judge-rows-requires-4 c κs = search needs
 
 -- src/lib.rt:143:9
 find-requires-4 : tie.Need-find-requires-4

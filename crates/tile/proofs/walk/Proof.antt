@@ -5,7 +5,7 @@ use lib.ListN.{length}
 use Rattle.side.specs.Edges.{edges}
 use Rattle.tile.specs.Columns.{Tile, tile, E}
 use Rattle.tile.proofs.OwnerLaws.{side-with-within}
-use Rattle.tile.proofs.JudgeLaws.{rows-within}
+use Rattle.tile.proofs.JudgeLaws.{regular}
 use Rattle.tile.proofs.WalkLaws.{walk-sizes, walk-no-row, walk-no-start, walk-empty, walk-on, walk-written}
 use borrow.Author.Needs.{needs}
 use Rattle.tile.proofs.walk.Statement.{statement}
@@ -71,7 +71,7 @@ returns-4 c =
 walk-from-requires : tie.Need-walk-from-requires
 walk-from-requires c κs =
     let t = whole (c .before .before .before .before .before .before .before .before .before .before .before .before .before .before .before .before .before .before .before .before .before .before) in
-    (rows-within t (sym ((c .before .before .before .before .before .before .before .before .before .before .sizes-wrong) .ensures) ∙ (c .before .before .before .before .before .before .before .before .before .if1) .left) .0, rw ((c .before .before .side-with) .ensures) (side-with-within (E t) (t .edg .rightFace) (t .edg .leftFace) ((c .before .before .before .before .before .before .row) .result) ((c .before .before .before .before .before .row2) .result)))
+    (regular t (sym ((c .before .before .before .before .before .before .before .before .before .before .sizes-wrong) .ensures) ∙ (c .before .before .before .before .before .before .before .before .before .if1) .left), rw ((c .before .before .side-with) .ensures) (side-with-within (E t) (t .edg .rightFace) (t .edg .leftFace) ((c .before .before .before .before .before .before .row) .result) ((c .before .before .before .before .before .row2) .result)))
 
 same-length : tie.Need-same-length
 same-length c = search needs

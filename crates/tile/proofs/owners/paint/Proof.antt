@@ -56,7 +56,9 @@ loop-holds c =
     (omega arith, refl, refl, paint-start (after (columns s)) (sideCount (columns s)) (s .args .marks .now) (s .args .start) (s .args .row) (s .pre .1 .1 .1 .0), refl, none-start _)
 
 side-after-requires : tie.Need-side-after-requires Inv-loop μ-loop
-side-after-requires c κs = search needs
+side-after-requires c κs =
+    let s = c .before .before .before .before .before .before .before .before .before .before in
+    (s .pre .0, rw ((c .before .loop) .inv .2) (iterate-in (after (columns s)) (sideCount (columns s)) (goes (columns s) (s .pre .1 .0)) ((c .before .loop) .k) (s .args .start) (omega arith) (s .pre .1 .1 .1 .1) .1))
 
 sub-j : tie.Need-sub-j Inv-loop μ-loop
 sub-j c = inside c .0

@@ -1,22 +1,31 @@
--- `tile::owners::tally` meets its contract. The loop's invariant: the marks count, up to two, how often the sides passed lead to each side.
+-- `tile::owners::tally` meets its contract. The loop's invariant: none of the sides passed is refused, and the marks count, up to two, how
+-- often they lead to each side.
 -- Assumes nothing.
-use mathlib.Core.Path.{_≡_, refl, ap, _∙_}
+use mathlib.Core.Path.{_≡_, refl, sym, ap, _∙_}
 use native.Mathlib.Omega.{arith}
 use native.Mathlib.Numerals.{add-one}
-use Prim.Native.Nat.{_+_, _*_, _≤_, _-_}
+use Prim.Native.Nat.{_+_, _*_, _≤_, _<_, _-_}
 use lib.ListN.{length, length-set}
+use Rattle.laws.proofs.LowestLaws.{none-start}
 use Rattle.laws.proofs.MarkLaws.{tally-turn}
 use Rattle.laws.specs.Buffer.{front}
+use Rattle.laws.specs.Lowest.{None}
 use Rattle.laws.specs.Marks.{count}
+use Rattle.refusal.specs.declared.Refusal.{Refusal}
+use Rattle.refusal.specs.Order.{fine, refuses}
+use Rattle.refusal.proofs.OrderLaws.{on-next, found, all-fine}
 use Rattle.side.specs.Successor.{after}
 use Rattle.side.specs.Edges.{Edges, edges, sideCount}
-use Rattle.tile.proofs.OwnerLaws.{goes}
+use Rattle.side.proofs.SideLaws.{after-at-most}
+use Rattle.tile.specs.Check.{edgeSideRefusal}
+use Rattle.tile.proofs.OwnerLaws.{tally-cleared, tally-whole}
+use Rattle.tile.proofs.SuccessorLaws.{side-fine, side-refused}
 use borrow.Author.Needs.{needs}
 use Rattle.tile.proofs.owners.tally.Statement.{statement}
 use Rattle.tile.proofs.owners.tally.Tie as tie
 
 abbrev Inv-loop : tie.InvT-loop
-Inv-loop start-node end-node right-face left-face right-edge left-edge marks₀ n i₀ marks i = (i ≤ n) × (n ≡ 2 * length start-node) × (marks ≡ front (count (after (edges start-node end-node right-face left-face right-edge left-edge)) i) (2 * length start-node) marks₀) × (length marks ≡ length marks₀)
+Inv-loop start-node end-node right-face left-face right-edge left-edge marks₀ n i₀ marks i = (i ≤ n) × (n ≡ 2 * length start-node) × (marks ≡ front (count (after (edges start-node end-node right-face left-face right-edge left-edge)) i) (2 * length start-node) marks₀) × (length marks ≡ length marks₀) × None (refuses (edgeSideRefusal (edges start-node end-node right-face left-face right-edge left-edge))) i
 
 abbrev μ-loop : tie.MeasureT-loop
 μ-loop start-node end-node right-face left-face right-edge left-edge marks₀ n i₀ marks i = n - i
@@ -26,22 +35,45 @@ abbrev columns : tie.Start Inv-loop μ-loop → Edges
 columns s = edges (s .args .start-node .now) (s .args .end-node .now) (s .args .right-face .now) (s .args .left-face .now) (s .args .right-edge .now) (s .args .left-edge .now)
 
 -- the side that is counted is one of 1..2E
-inside : (c : tie.After-side-after Inv-loop μ-loop) → (1 ≤ c .side-after .result) × (c .side-after .result ≤ sideCount (columns (c .before .before .before .before .before .before .before .before .before .before)))
+inside : (c : tie.Else1 Inv-loop μ-loop) → (0 < c .before .side-after .result) × (c .before .side-after .result ≤ sideCount (columns (c .before .before .before .before .before .before .before .before .before .before .before)))
 inside c =
-    let s = c .before .before .before .before .before .before .before .before .before .before in
-    rw (c .side-after .ensures) (goes (columns s) (s .pre .1 .0) (c .before .before .loop .i + 1) (omega arith) (omega arith))
+    let z = c .if1 .left in
+    let u = c .before .side-after .result in
+    let p : 0 < u = omega arith in
+    (p, rw (c .before .side-after .ensures) (after-at-most (columns (c .before .before .before .before .before .before .before .before .before .before .before)) (c .before .before .before .loop .i + 1)))
 
 mul-n : tie.Need-mul-n Inv-loop μ-loop
 mul-n c = search needs
 
 loop-holds : tie.Need-loop-holds Inv-loop μ-loop
-loop-holds c = (omega arith, refl, (c .before .before .before .before .before .before .before .pre) .1 .1 .1, refl)
+loop-holds c = (omega arith, refl, (c .before .before .before .before .before .before .before .pre) .1 .1, refl, none-start _)
 
 add-side-after : tie.Need-add-side-after Inv-loop μ-loop
 add-side-after c = search needs
 
 side-after-requires : tie.Need-side-after-requires Inv-loop μ-loop
 side-after-requires c κs = search needs
+
+clear-requires : tie.Need-clear-requires Inv-loop μ-loop
+clear-requires c κs = omega (arith, (c .before .before .before .before .loop) .inv, (c .before .before .before .before .before .before .before .before .before .before .before .before .pre) .1 .0)
+
+add-judge-side : tie.Need-add-judge-side Inv-loop μ-loop
+add-judge-side c = search needs
+
+judge-side-requires : tie.Need-judge-side-requires Inv-loop μ-loop
+judge-side-requires c κs = search needs
+
+same-length : tie.Need-same-length Inv-loop μ-loop
+same-length c = search needs
+
+returns : tie.Need-returns Inv-loop μ-loop
+returns c =
+    let t = columns (c .before .before .before .before .before .before .before .before .before .before .before .before .before .before .before .before) in
+    let q = (c .judge-side) .result in
+    let z : q .number ≡ 0 → ⊥ = λ e. side-refused t ((c .before .before .before .before .before .before .before .before .loop) .i + 1) ((c .before .before .before .before .before .before .side-after) .result) ((c .before .before .before .before .before .before .side-after) .ensures) ((c .before .before .before .before .before .if1) .taken) (sym (ap (λ (r : Refusal). r .number) ((c .judge-side) .ensures)) ∙ e) in (
+      found (edgeSideRefusal t) (sideCount t) ((c .before .before .before .before .before .before .before .before .loop) .i) q ((c .before .before .before .before .before .before .before .loop-test) .taken) ((c .before .before .before .before .before .before .before .before .loop) .inv .4) ((c .judge-side) .ensures) z,
+      tally-cleared t (c .before .before .before .before .before .before .before .before .before .before .before .before .before .before .before .before .args .marks .now) q z (count (after t) ((c .before .before .before .before .before .before .before .before .loop) .i)) ((c .before .before .before .before .before .before .before .before .loop) .marks) ((c .before .before .before .clear) .last .0) ((c .before .before .before .before .before .before .before .before .loop) .inv .2) ((c .before .before .before .clear) .ensures),
+    )
 
 sub-j : tie.Need-sub-j Inv-loop μ-loop
 sub-j c = inside c .0
@@ -50,7 +82,7 @@ mul-one-more : tie.Need-mul-one-more Inv-loop μ-loop
 mul-one-more c = omega (arith, inside c)
 
 slice-read-one-more : tie.Need-slice-read-one-more Inv-loop μ-loop
-slice-read-one-more c = omega (arith, inside (c .before), (c .before .before .before .before .before .before .before .before .before .before .before .pre) .1 .1 .0)
+slice-read-one-more c = omega (arith, inside (c .before), (c .before .before .before .before .before .before .before .before .before .before .before .before .pre) .1 .0, (c .before .before .before .before .loop) .inv)
 
 one-more-requires : tie.Need-one-more-requires Inv-loop μ-loop
 one-more-requires c κs = search needs
@@ -59,7 +91,7 @@ mul-marks : tie.Need-mul-marks Inv-loop μ-loop
 mul-marks c = omega (arith, inside (c .before .before))
 
 slice-write-marks : tie.Need-slice-write-marks Inv-loop μ-loop
-slice-write-marks c = omega (arith, inside (c .before .before), (c .before .before .before .before .before .before .before .before .before .before .before .before .pre) .1 .1 .0)
+slice-write-marks c = omega (arith, inside (c .before .before), (c .before .before .before .before .before .before .before .before .before .before .before .before .before .pre) .1 .0, (c .before .before .before .before .before .loop) .inv)
 
 add-i : tie.Need-add-i Inv-loop μ-loop
 add-i c = search needs
@@ -69,22 +101,30 @@ loop-less c = search needs
 
 loop-again : tie.Need-loop-again Inv-loop μ-loop
 loop-again c =
-    let s = c .before .before .before .before .before .before .before .before .before .before .before .before in
+    let s = c .before .before .before .before .before .before .before .before .before .before .before .before .before in
     let t = columns s in (
       omega arith,
       refl,
-      tally-turn (after t) (sideCount t) (s .args .marks .now) ((c .before .before .before .before .loop) .marks) (goes t (s .pre .1 .0)) (s .pre .1 .1 .0) ((c .before .before .before .before .loop) .i) ((c .before .before .side-after) .result) ((c .one-more) .result) (omega arith) ((c .before .before .before .before .loop) .inv .2)
-          ((c .before .before .side-after) .ensures ∙ ap (after t) (add-one ((c .before .before .before .before .loop) .i))) ((c .one-more) .ensures),
-      simp length-set ((c .before .before .before .before .loop) .inv .3),
+      tally-turn (after t) (sideCount t) (s .args .marks .now) ((c .before .before .before .before .before .loop) .marks) (s .pre .1 .0) ((c .before .before .before .before .before .loop) .i) ((c .before .before .before .side-after) .result) ((c .one-more) .result) (inside (c .before .before) .0) (inside (c .before .before) .1) ((c .before .before .before .before .before .loop) .inv .2)
+          ((c .before .before .before .side-after) .ensures ∙ ap (after t) (add-one ((c .before .before .before .before .before .loop) .i))) ((c .one-more) .ensures),
+      simp length-set ((c .before .before .before .before .before .loop) .inv .3),
+      on-next (edgeSideRefusal t) ((c .before .before .before .before .before .loop) .i) fine ((c .before .before .before .before .before .loop) .inv .4) (side-fine t ((c .before .before .before .before .before .loop) .i + 1) ((c .before .before .before .side-after) .result) ((c .before .before .before .side-after) .ensures) ((c .before .before .if1) .left)) refl,
     )
 
-same-length : tie.Need-same-length Inv-loop μ-loop
-same-length c = search needs
+no-refusal-requires : tie.Need-no-refusal-requires Inv-loop μ-loop
+no-refusal-requires c κs = search needs
 
-returns : tie.Need-returns Inv-loop μ-loop
-returns c =
-    let q : (c .before .loop) .i ≡ 2 * length ((c .before .before .before .before .before .before .before .before .before .args) .start-node .now) = omega arith in
-    rw q at ((c .before .loop) .inv .2)
+same-length-2 : tie.Need-same-length-2 Inv-loop μ-loop
+same-length-2 c = search needs
+
+returns-2 : tie.Need-returns-2 Inv-loop μ-loop
+returns-2 c =
+    let s = c .before .before .before .before .before .before .before .before .before .before in
+    let t = columns s in
+    let q : (c .before .before .loop) .i ≡ sideCount t = omega arith in (
+      (c .no-refusal) .ensures ∙ all-fine (edgeSideRefusal t) (sideCount t) ((c .before .before .loop) .i) ((c .before .loop-test) .left) ((c .before .before .loop) .inv .0) ((c .before .before .loop) .inv .4),
+      tally-whole t (s .args .marks .now) ((c .no-refusal) .result) (ap (λ (r : Refusal). r .number) ((c .no-refusal) .ensures)) ((c .before .before .loop) .marks) (rw q at ((c .before .before .loop) .inv .2)),
+    )
 
 pub tally-spec : {M : Type 1} → statement M
 tally-spec =
@@ -96,6 +136,11 @@ tally-spec =
     loop-holds
     add-side-after
     side-after-requires
+    clear-requires
+    add-judge-side
+    judge-side-requires
+    same-length
+    returns
     sub-j
     mul-one-more
     slice-read-one-more
@@ -105,5 +150,6 @@ tally-spec =
     add-i
     loop-less
     loop-again
-    same-length
-    returns)
+    no-refusal-requires
+    same-length-2
+    returns-2)

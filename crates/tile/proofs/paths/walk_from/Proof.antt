@@ -13,7 +13,7 @@ abbrev columns : tie.Start → Edges
 columns s = edges (s .args .start-node .now) (s .args .end-node .now) (s .args .right-face .now) (s .args .left-face .now) (s .args .right-edge .now) (s .args .left-edge .now)
 
 count-moves-requires : tie.Need-count-moves-requires
-count-moves-requires c κs = (c .before .before .before .before .before .before .before .pre) .0
+count-moves-requires c κs = (c .before .before .before .before .before .before .before .pre)
 
 enum-known-k : tie.Need-enum-known-k
 enum-known-k c = search needs

@@ -1,0 +1,14 @@
+use lib.Ieee.{ofBits}
+use borrow.Author.Needs.{needs}
+use Rattle.abi.proofs.tables.double_rectangle.Statement.{statement}
+use Rattle.abi.proofs.tables.double_rectangle.Tie as tie
+use Rattle.abi.proofs.tables.double_rectangle.Reads as reads
+use Rattle.abi.proofs.tables.double_rectangle.Lts as lts
+
+-- src/tables.rt:134:1
+returns : tie.Need-returns
+unfolding ofBits
+returns c = search needs
+
+pub double-rectangle-spec : {M : Type 1} → statement M
+double-rectangle-spec = tie.close (tie.spec returns)

@@ -1,0 +1,14 @@
+use lib.Ieee.{ofBits}
+use borrow.Author.Needs.{needs}
+use Rattle.abi.proofs.tables.short_rectangle.Statement.{statement}
+use Rattle.abi.proofs.tables.short_rectangle.Tie as tie
+use Rattle.abi.proofs.tables.short_rectangle.Reads as reads
+use Rattle.abi.proofs.tables.short_rectangle.Lts as lts
+
+-- src/tables.rt:115:1
+returns : tie.Need-returns
+unfolding ofBits
+returns c = search needs
+
+pub short-rectangle-spec : {M : Type 1} → statement M
+short-rectangle-spec = tie.close (tie.spec returns)

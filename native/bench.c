@@ -1,0 +1,226 @@
+/* Benchmarks: the archive beside the plain C of reference.c, same input, same run. */
+#define MOST_FILE 80000000
+#include "tables.h"
+#include "tiles.h"
+#include <stdio.h>
+#include <time.h>
+
+static double now(void) {
+    struct timespec t;
+    clock_gettime(CLOCK_MONOTONIC, &t);
+    return t.tv_sec + t.tv_nsec * 1e-9;
+}
+
+#define COLUMNS(m)                                                                                                                          \
+    (m).column[0], (m).length[0], (m).column[1], (m).length[1], (m).column[2], (m).length[2], (m).column[3], (m).length[3], (m).column[4],   \
+        (m).length[4], (m).column[5], (m).length[5], (m).column[6], (m).length[6], (m).column[7], (m).length[7], (m).column[8],              \
+        (m).length[8], (m).column[9], (m).length[9]
+
+static size_t walks_ours(const made_tile *m, uint32_t *out, size_t space) {
+    size_t sum = 0;
+    for (size_t r = 1; r <= m->length[FAC_ID]; r++) {
+        vumbarete_steps a = vumbarete_walk(COLUMNS(*m), r, out, space);
+        if (a.number) fprintf(stderr, "walk refused\n"), exit(1);
+        sum += a.steps;
+    }
+    return sum;
+}
+
+static size_t walks_ref(const made_tile *m, uint32_t *out, size_t space) {
+    size_t sum = 0;
+    tile32 t = lent(m);
+    for (size_t r = 1; r <= m->length[FAC_ID]; r++) sum += ref_walk(&t, r, out, space).steps;
+    return sum;
+}
+
+/* the shortest of several turns, the two taken in turn */
+#define BEST(turns, ours, theirs, a, b)                                                                                                     \
+    double a = 1e9, b = 1e9;                                                                                                                \
+    for (int turn_ = 0; turn_ < (turns); turn_++) {                                                                                         \
+        double t0_ = now();                                                                                                                 \
+        ours;                                                                                                                               \
+        double t1_ = now();                                                                                                                 \
+        theirs;                                                                                                                             \
+        double t2_ = now();                                                                                                                 \
+        if (t1_ - t0_ < a) a = t1_ - t0_;                                                                                                   \
+        if (t2_ - t1_ < b) b = t2_ - t1_;                                                                                                   \
+    }
+
+static made_table big;
+static volatile size_t sink;
+
+/* the four tables of a tile: edg with triplets, coordinates and an index, the others of one width */
+static made_table *four[4];
+
+static void tile_tables(const made_tile *m) {
+    static const char *names[10] = {"start_node", "end_node", "right_face", "left_face", "right_edge", "left_edge", "ring_ptr", "fac_id", "start_edge", "first_edge"};
+    static const int first[5] = {START_NODE, RING_PTR, FAC_ID, FIRST_EDGE, 10};
+    for (int k = 0; k < 4; k++) {
+        if (!four[k]) four[k] = malloc(sizeof *four[k]);
+        made_table *t = four[k];
+        begin_table(t, 'L', "A table of a tile", "-");
+        add_column(t, "id", 'I', "1", 'P', "Row Identifier");
+        for (int p = first[k]; p < first[k + 1]; p++) add_column(t, names[p], p >= RIGHT_FACE && p <= LEFT_EDGE ? 'K' : 'I', "1", 'N', "A column");
+        if (k == 0) add_column(t, "coordinates", 'C', "*", 'N', "Coordinates of Edge");
+        end_header(t);
+        for (size_t i = 1; i <= m->length[first[k]]; i++) {
+            size_t begin = t->size;
+            add_number(t, i, 4);
+            for (int p = first[k]; p < first[k + 1]; p++) {
+                uint32_t v = m->column[p][i - 1];
+                if (p >= RIGHT_FACE && p <= LEFT_EDGE) add_triplet(t, v, 0, 0);
+                else add_number(t, v, 4);
+            }
+            if (k == 0) {
+                add_number(t, 2, 4);
+                for (int c = 0; c < 4; c++) add_number(t, 0x3f800000 + i, 4);
+            }
+            end_row(t, begin);
+        }
+        end_table(t, true);
+    }
+}
+
+static void loads(void) {
+    static const size_t side[][2] = {{22, 22}, {70, 70}, {223, 223}, {707, 706}};
+    double last = 0;
+    printf("\nLoading a tile from its four tables, times per edge\n%-10s %10s %10s %7s %8s\n", "edges", "ours ns", "C ns", "ratio", "growth");
+    for (int i = 0; i < 4; i++) {
+        made_tile m;
+        uint32_t *c[10];
+        table_files files[4];
+        grid_tile(&m, side[i][0], side[i][1]);
+        tile_tables(&m);
+        for (int p = 0; p < 10; p++) c[p] = malloc(m.length[p] * 4);
+        for (int k = 0; k < 4; k++) files[k] = (table_files){four[k]->file, four[k]->index, four[k]->size, four[k]->index_size};
+#define FOUR(k) four[k]->file, four[k]->size, four[k]->index, four[k]->index_size
+#define LOAD                                                                                                                                \
+    vumbarete_load(FOUR(0), FOUR(1), FOUR(2), FOUR(3), 1000000, c[0], m.length[0], c[1], m.length[1], c[2], m.length[2], c[3], m.length[3], \
+                   c[4], m.length[4], c[5], m.length[5], c[6], m.length[6], c[7], m.length[7], c[8], m.length[8], c[9], m.length[9])
+        vumbarete_loaded v = LOAD;
+        size_t E = m.length[0], sum = 0;
+        if (v.number || v.edges != E) fprintf(stderr, "load refused %u %zu\n", v.number, v.place), exit(1);
+        for (int p = 0; p < 10; p++)
+            if (memcmp(c[p], m.column[p], m.length[p] * 4)) fprintf(stderr, "load differs\n"), exit(1);
+        int turns = E < 50000 ? 50 : E < 500000 ? 9 : 3;
+        BEST(turns, sum += LOAD.edges, sum += ref_load(files, 1000000, c, m.length).edges, a, b)
+        sink = sum;
+        printf("%-10zu %10.2f %10.2f %7.3f %8.3f\n", E, a / E * 1e9, b / E * 1e9, a / b, last ? a / E / last : 1.0);
+        last = a / E;
+        for (int p = 0; p < 10; p++) free(c[p]);
+        drop_tile(&m);
+    }
+}
+
+static void tiles(void) {
+    static const size_t side[][2] = {{22, 22}, {70, 70}, {223, 223}, {707, 706}};
+    double last = 0, last_c = 0;
+    printf("%-10s %10s %10s %7s   %10s %10s %7s   %7s %8s %8s\n", "edges", "check ns", "C ns", "ratio", "walks ns", "C ns", "ratio", "both", "growth", "of C");
+    for (int i = 0; i < 4; i++) {
+        made_tile m;
+        grid_tile(&m, side[i][0], side[i][1]);
+        size_t E = m.length[0];
+        uint32_t *marks = malloc(E * 8), *out = malloc(E * 8);
+        tile32 t = lent(&m);
+        vumbarete_verdict v = vumbarete_check(COLUMNS(m), marks, 2 * E);
+        if (v.number) fprintf(stderr, "check refused %u %zu\n", v.number, v.place), exit(1);
+        if (walks_ours(&m, out, 2 * E) != 2 * E) fprintf(stderr, "walks do not add up\n"), exit(1);
+        int turns = E < 50000 ? 200 : E < 500000 ? 40 : 25;
+        BEST(turns, vumbarete_check(COLUMNS(m), marks, 2 * E), ref_check(&t, marks, 2 * E), co, cc)
+        BEST(turns, walks_ours(&m, out, 2 * E), walks_ref(&m, out, 2 * E), wo, wc)
+        double per = (co + wo) / E, per_c = (cc + wc) / E;
+        printf("%-10zu %10.2f %10.2f %7.3f   %10.2f %10.2f %7.3f   %7.3f %8.3f %8.3f\n", E, co / E * 1e9, cc / E * 1e9, co / cc, wo / E * 1e9,
+               wc / E * 1e9, wo / wc, (co + wo) / (cc + wc), last ? per / last : 1.0, last_c ? per_c / last_c : 1.0);
+        last = per, last_c = per_c;
+        free(marks), free(out), drop_tile(&m);
+    }
+}
+
+
+
+/* the edge table of a tile, with triplets and coordinates or without */
+static void edge_table(size_t rows, bool varies) {
+    static const char *links[] = {"right_face", "left_face", "right_edge", "left_edge"};
+    begin_table(&big, 'L', "Edge Primitive Table", "-");
+    add_column(&big, "id", 'I', "1", 'P', "Row Identifier");
+    add_column(&big, "start_node", 'I', "1", 'N', "Start Node");
+    add_column(&big, "end_node", 'I', "1", 'N', "End Node");
+    for (int i = 0; i < 4; i++) add_column(&big, links[i], varies ? 'K' : 'I', "1", 'N', "Link");
+    if (varies) add_column(&big, "coordinates", 'C', "*", 'N', "Coordinates of Edge");
+    end_header(&big);
+    for (size_t i = 1; i <= rows; i++) {
+        size_t begin = big.size;
+        for (int k = 0; k < 3; k++) add_number(&big, k ? i + (size_t)k : i, 4);
+        for (int k = 0; k < 4; k++) {
+            if (varies) add_triplet(&big, (uint32_t)(i * 7 + (size_t)k) % 1000000, k == 1 ? 5 : 0, k == 1 ? (uint32_t)i : 0);
+            else add_number(&big, i + (size_t)k, 4);
+        }
+        if (varies) {
+            size_t points = 2 + i % 5;
+            add_number(&big, points, 4);
+            for (size_t p = 0; p < 2 * points; p++) {
+                float f = (float)(i % 1000) + (float)p;
+                uint32_t b;
+                memcpy(&b, &f, 4);
+                add_number(&big, b, 4);
+            }
+        }
+        end_row(&big, begin);
+    }
+    end_table(&big, false);
+}
+
+#define BIG big.file, big.size, big.index, big.index_size
+
+
+static void headers(void) {
+    printf("\nHeaders\n%-34s %12s %12s %7s\n", "", "ours ns", "C ns", "ratio");
+    for (int i = 0; i < 2; i++) {
+        if (i == 0) {
+            edge_table(1, true);
+        } else {
+            begin_table(&big, 'L', "", "-");
+            add_column(&big, "id", 'I', "1", 'P', "");
+            while (big.size < 32767 + 4 - 60) {
+                big.columns = 1;
+                add_column(&big, "a_column", 'I', "1", 'N', "");
+            }
+            size_t rest = 32767 + 4 - big.size - 1 - strlen("z=I,1,N,,-,-,-,:");
+            char about[80];
+            memset(about, 'x', rest);
+            about[rest] = 0;
+            add_column(&big, "z", 'I', "1", 'N', about);
+            end_header(&big);
+        }
+        int many = i ? 20 : 2000;
+        size_t sum = 0;
+        BEST(50, for (int k = 0; k < many; k++) sum += vumbarete_header(big.file, big.size).number,
+             for (int k = 0; k < many; k++) sum += ref_header(big.file, big.size).number, a, b)
+        sink = sum;
+        char what[64];
+        snprintf(what, sizeof what, "header of %zu bytes, L = %zu", big.start, big.start - 4);
+        printf("%-34s %12.0f %12.0f %7.3f   ours %.0f per second\n", what, a / many * 1e9, b / many * 1e9, a / b, many / a);
+    }
+}
+
+static void rows(void) {
+    printf("\nRows of an edge table, opened once and each judged\n%-34s %12s %12s %7s\n", "", "ours ns", "C ns", "ratio");
+    for (int varies = 0; varies < 2; varies++) {
+        size_t n = 200000, sum = 0;
+        edge_table(n, varies);
+        vumbarete_table_answer v = vumbarete_judge_rows(BIG);
+        if (v.number || v.rows != n) fprintf(stderr, "rows refused %u %zu\n", v.number, v.place), exit(1);
+        BEST(9, sum += vumbarete_judge_rows(BIG).rows, sum += ref_judge_rows(BIG).rows, a, b)
+        sink = sum;
+        printf("%-34s %12.2f %12.2f %7.3f\n", varies ? "I, K and C* columns, with index" : "I columns, one width", a / n * 1e9, b / n * 1e9, a / b);
+    }
+}
+
+int main(void) {
+    headers();
+    rows();
+    loads();
+    printf("\nChecking and walking, times per edge; both: check and all walks\n");
+    tiles();
+    return 0;
+}

@@ -1,0 +1,42 @@
+# Sourced by native/run and native/bench: the archive proved and built, C compiled and linked with it, for the processor at hand. The
+# archive is x86-64: on such a machine all is native; elsewhere C is cross-compiled by clang, linked against the kit's C library and
+# run under the kit's emulator, where only ratios mean something.
+kit=$(dirname "$(dirname "$(rt doc)")")
+out=target/native
+mkdir -p "$out"
+
+need() { # COMMAND PACKAGE
+    command -v "$1" >/dev/null && return
+    echo "native: installing $2"
+    apt-get install -y "$2" >/dev/null
+}
+
+echo "native: proving and building the archive"
+rt staticlib abi >"$out/staticlib.log" 2>&1 || {
+    tail -20 "$out/staticlib.log"
+    exit 1
+}
+
+if [ "$(uname -m)" = x86_64 ]; then
+    need gcc gcc
+    echo "native: x86-64, linked and run natively ($(gcc --version | head -1))"
+    build() { # NAME LEVEL: the plain C is at -O3 whatever the level of the harness
+        gcc -std=c11 -D_POSIX_C_SOURCE=199309L -O3 -Wall -Wextra -c native/reference.c -o "$out/reference.o"
+        gcc -std=c11 -D_POSIX_C_SOURCE=199309L "$2" -Wall -Wextra "native/$1.c" "$out/reference.o" target/staticlib/libabi.a -o "$out/$1"
+    }
+    run_built() { name=$1; shift; "$out/$name" "$@"; }
+else
+    need clang clang
+    tools=$kit/on/$(uname -m)/toolchain
+    lib=$tools/lib
+    echo "native: $(uname -m), cross-compiled and run under the emulator: only ratios count"
+    build() {
+        flags="--target=x86_64-linux-gnu -std=c11 -D_POSIX_C_SOURCE=199309L -fPIC -Wall -Wextra"
+        clang $flags -O3 -c native/reference.c -o "$out/reference.o"
+        clang $flags "$2" -c "native/$1.c" -o "$out/$1.o"
+        "$tools/bin/ld.lld" -pie -dynamic-linker "$lib/ld-linux-x86-64.so.2" -o "$out/$1" "$lib/Scrt1.o" "$lib/crti.o" "$lib/crtbeginS.o" \
+            "$out/$1.o" "$out/reference.o" target/staticlib/libabi.a "$lib/libc.so.6" "$lib/libc_nonshared.a" "$lib/libgcc.a" \
+            "$lib/crtendS.o" "$lib/crtn.o"
+    }
+    run_built() { name=$1; shift; "$tools/bin/qemu-x86_64" "$lib/ld-linux-x86-64.so.2" --library-path "$lib" "$out/$name" "$@"; }
+fi
