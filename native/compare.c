@@ -509,6 +509,38 @@ static void walk_case(void) {
     free(ours), free(theirs), drop_tile(&m);
 }
 
+/* "over 1,000,000 rows" is 15: each table once at the limit and once past it. No program of the gate can hold so many. */
+static void limit_case(size_t edges, size_t faces, size_t rings, size_t nodes) {
+    made_tile m;
+    uint32_t *ours, *theirs;
+    new_tile(&m, edges, faces, rings, nodes);
+    for (int i = 0; i < 10; i++)
+        for (size_t k = 0; k < m.length[i]; k++) m.column[i][k] = 1;
+    size_t need = 2 * edges;
+    two_buffers(&ours, &theirs, need + 8);
+    tile32 t = lent(&m);
+    bool past = edges > 1000000 || faces > 1000000 || rings > 1000000 || nodes > 1000000;
+    vumbarete_verdict a = vumbarete_check(COLUMNS(m), ours, need), b = ref_check(&t, theirs, need);
+    note(a.number);
+    judge(SAME_REFUSAL(a, b) && (a.number == 15) == past && memcmp(ours, theirs, (need + 8) * 4) == 0);
+    vumbarete_steps w = vumbarete_walk(COLUMNS(m), 1, ours, need), v = ref_walk(&t, 1, theirs, need);
+    note(w.number);
+    judge(SAME_REFUSAL(w, v) && SAME(w, v, steps) && (w.number == 15) == past && memcmp(ours, theirs, (need + 8) * 4) == 0);
+    free(ours), free(theirs), drop_tile(&m);
+}
+
+static void limits(void) {
+    static const size_t at[2] = {1000000, 1000001};
+    unsigned long before = failed;
+    entry = "limits";
+    memset(seen, 0, sizeof seen);
+    for (int k = 0; k < 2; k++) {
+        limit_case(at[k], 1, 1, 1), limit_case(1, at[k], 1, 1);
+        limit_case(1, 1, at[k], 1), limit_case(1, 1, 1, at[k]);
+    }
+    printf("%-16s 16 cases, %lu differences; 15 given %lu times\n", entry, failed - before, seen[15]);
+}
+
 /* ---- loading */
 
 static made_table four[4];
@@ -635,6 +667,7 @@ int main(int argc, char **argv) {
     run("load", load_case, cases, seed);
     run("check", check_case, cases, seed);
     run("walk", walk_case, cases, seed);
+    limits();
     printf("%lu passed, %lu failed\n", passed, failed);
     return failed != 0;
 }
