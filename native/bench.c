@@ -216,9 +216,57 @@ static void rows(void) {
     }
 }
 
-int main(void) {
+#ifdef OGDI
+/* OGDI's table reader on the same table, from files as it wants them. Debian ships the library without its header: a table is passed by value, last of
+ * the arguments, so that a block no smaller than the library's own serves. */
+typedef struct {
+    unsigned char held[512];
+} ogdi_table;
+extern ogdi_table vpf_open_table(const char *name, int storage, const char *mode, char *definition);
+extern void *read_row(int32_t row, ogdi_table table);
+extern void free_row(void *row, ogdi_table table);
+extern void *get_table_element(int32_t field, void *row, ogdi_table table, void *value, int32_t *count);
+
+static void put_file(const char *name, const uint8_t *bytes, size_t n) {
+    FILE *f = fopen(name, "wb");
+    if (!f || fwrite(bytes, 1, n, f) != n || fclose(f)) fprintf(stderr, "%s cannot be written\n", name), exit(1);
+}
+
+static size_t ogdi_rows(ogdi_table t, size_t n) {
+    size_t sum = 0;
+    for (size_t i = 1; i <= n; i++) {
+        void *row = read_row((int32_t)i, t);
+        int32_t id = 0, count;
+        get_table_element(0, row, t, &id, &count);
+        sum += (size_t)id;
+        free_row(row, t);
+    }
+    return sum;
+}
+
+static void beside_ogdi(const char *folder) {
+    size_t n = 20000, sum = 0;
+    char name[512];
+    edge_table(n, true);
+    snprintf(name, sizeof name, "%s/edx", folder), put_file(name, big.index, big.index_size);
+    snprintf(name, sizeof name, "%s/edg", folder), put_file(name, big.file, big.size);
+    ogdi_table t = vpf_open_table(name, 1, "rb", NULL);
+    if (ogdi_rows(t, n) != n * (n + 1) / 2) fprintf(stderr, "OGDI reads other ids\n"), exit(1);
+    BEST(15, sum += vumbarete_judge_rows(BIG).rows, sum += ogdi_rows(t, n), a, b)
+    sink = sum;
+    printf("\nRows with index beside OGDI's read_row\n%-34s %12s %12s %7s\n%-34s %12.2f %12.2f %7.4f\n", "", "ours ns", "OGDI ns", "ratio", "I, K and C* columns, with index",
+           a / n * 1e9, b / n * 1e9, a / b);
+}
+#endif
+
+int main(int argc, char **argv) {
     headers();
     rows();
+#ifdef OGDI
+    beside_ogdi(argc > 1 ? argv[1] : ".");
+#else
+    (void)argc, (void)argv;
+#endif
     loads();
     printf("\nChecking and walking, times per edge; both: check and all walks\n");
     tiles();

@@ -20,9 +20,9 @@ rt staticlib abi >"$out/staticlib.log" 2>&1 || {
 if [ "$(uname -m)" = x86_64 ]; then
     need gcc gcc
     echo "native: x86-64, linked and run natively ($(gcc --version | head -1))"
-    build() { # NAME LEVEL: the plain C is at -O3 whatever the level of the harness
+    build() { # NAME LEVEL [MORE]: the plain C is at -O3 whatever the level of the harness
         gcc -std=c11 -D_POSIX_C_SOURCE=199309L -O3 -Wall -Wextra -c native/reference.c -o "$out/reference.o"
-        gcc -std=c11 -D_POSIX_C_SOURCE=199309L "$2" -Wall -Wextra "native/$1.c" "$out/reference.o" target/staticlib/libabi.a -o "$out/$1"
+        gcc -std=c11 -D_POSIX_C_SOURCE=199309L "$2" -Wall -Wextra "native/$1.c" "$out/reference.o" target/staticlib/libabi.a -o "$out/$1" ${3:-}
     }
     run_built() { name=$1; shift; "$out/$name" "$@"; }
 else
