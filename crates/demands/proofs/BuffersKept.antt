@@ -1,6 +1,5 @@
 -- What a refusal leaves in the lent buffers. Assumes nothing.
 use mathlib.Core.Path.{_≡_, refl, ap, _∙_}
-use mathlib.Core.Logic.{_⊎_, ⊎-elim}
 use mathlib.Core.Bool.{Bool, false}
 use mathlib.Core.List.{List}
 use Prim.Native.Nat.{ℕ, _≤_, _<_}
@@ -10,6 +9,7 @@ use lib.Dec.{eqb}
 use lib.ListN.{length}
 use Rattle.laws.specs.Buffer.{front}
 use Rattle.laws.specs.Marks.{zeros}
+use Rattle.laws.proofs.TestLaws.{clash}
 use Rattle.refusal.specs.declared.Refusal.{Refusal}
 use Rattle.number.specs.declared.Order.{Order}
 use Rattle.triplet.specs.declared.Ids.{Ids}
@@ -17,27 +17,28 @@ use Rattle.triplet.specs.declared.Written.{Written}
 use Rattle.triplet.specs.declared.Written.the-variants as written
 use Rattle.triplet.specs.Written.{writtenOf, rowAfter}
 use Rattle.load.specs.declared.TableName.{TableName}
+use Rattle.load.specs.declared.Counts.{Counts}
 use Rattle.load.specs.declared.Finding.{Finding}
 use Rattle.load.specs.declared.Loaded.{Loaded}
 use Rattle.load.specs.declared.Loaded.the-variants as loaded
 use Rattle.load.specs.Sources.{Files}
 use Rattle.load.specs.Load.{loadOf, columnLeft}
-use Rattle.load.proofs.LoadedExactly as load
+use Rattle.tile.specs.declared.Verdict.{Verdict}
 use Rattle.tile.specs.declared.Verdict.the-variants as verdict
 use Rattle.tile.specs.declared.Walked.{Walked}
 use Rattle.tile.specs.declared.Walked.the-variants as walked
-use Rattle.tile.specs.Columns.{Tile, sides}
+use Rattle.tile.specs.Columns.{Tile, F, sides}
 use Rattle.tile.specs.Check.{verdictOf, marksLeft, marksAfter}
 use Rattle.tile.specs.Check as check
 use Rattle.tile.specs.Walk.{walkOf, sidesWritten}
 use Rattle.tile.specs.Facts as facts
 use Rattle.tile.proofs.RefusedExactly as tile
 use Rattle.report.specs.declared.Sizes.{Sizes}
-use Rattle.report.specs.declared.TooLarge.{TooLarge}
-use Rattle.report.specs.Files.{mostRows, tooLarge}
+use Rattle.report.specs.Files.{fileOfVerdict}
 use Rattle.directory.specs.declared.Named.{Named}
-use Rattle.directory.specs.Outcome.{tileSaid, columnAfter, marksLoaded, marksAfterAll}
-use Rattle.directory.specs.Words.{BySize, ByLoad, ByCheck}
+use Rattle.directory.specs.declared.Outcome.{Outcome}
+use Rattle.directory.specs.declared.Outcome.the-variants as outcome
+use Rattle.directory.specs.Outcome.{named, loadedOf, columnAfter, checkedFrom, checkedAs}
 use Rattle.demands.proofs.NumbersNamed.{check-numbers, among-some}
 
 -- ---- triplets written, tiles loaded, rings walked: nothing
@@ -92,37 +93,17 @@ module _ (t : Tile) (marks : List ℕ) (q : Refusal) (e : verdictOf t (length ma
         space-there t (length marks) (q .number) (q .place) (w .test) (w .earlier) (w .fails) h,
       )
 
--- ---- a directory judged
+-- ---- a directory loaded, and its tile checked
 
-module _ (z : Sizes) (cnxRead : Bool) (f : Files) (lengths : List ℕ) (space : ℕ) (w : Named) where
-  abbrev columnThen : TableName → ℕ → List ℕ → List ℕ
-  columnThen = columnAfter (tooLarge z cnxRead) f lengths
+pub directory-load-unchanged : (z : Sizes) (cnxRead : Bool) (f : Files) (lengths : List ℕ) (w : Named) → loadedOf z cnxRead f lengths ≡ outcome.Refused w
+    → (n : TableName) (k : ℕ) (d : List ℕ) → columnAfter (loadedOf z cnxRead f lengths) f n k d ≡ d
+directory-load-unchanged z cnxRead f lengths w e n k d = ap (λ (o : Outcome). columnAfter o f n k d) e
 
-  abbrev marksThen : List ℕ → List ℕ
-  marksThen = marksAfterAll (tooLarge z cnxRead) f lengths
+refused-from : (c : Counts) (t : Tile) (w : Named) (v : Verdict) → checkedFrom c t v ≡ outcome.Refused w → v ≡ verdict.Refused (w .refusal)
+refused-from c t w verdict.Accepted e = clash (cc)
+refused-from c t w (verdict.Refused q) e = let h : named (fileOfVerdict (t .facId) (F t) q) q ≡ w = cc in ap (λ (x : Named). verdict.Refused (x .refusal)) h
 
-  by-size : BySize z cnxRead f lengths space w → ((n : TableName) (k : ℕ) (d : List ℕ) → columnThen n k d ≡ d) × ((d : List ℕ) → marksThen d ≡ d)
-  by-size a = (
-    λ n k d. ap (λ (x : TooLarge). columnAfter x f lengths n k d) (a .size),
-    λ d. ap (λ (x : TooLarge). marksAfterAll x f lengths d) (a .size),
-  )
-
-  by-load : ByLoad z cnxRead f lengths space w → ((n : TableName) (k : ℕ) (d : List ℕ) → columnThen n k d ≡ d) × ((d : List ℕ) → marksThen d ≡ d)
-  by-load a =
-      let e = load.refused-exactly f mostRows lengths (a .finding) .1 (a .refused) in (
-        λ n k d. ap (λ (x : TooLarge). columnAfter x f lengths n k d) (a .sizes) ∙ load-unchanged f mostRows lengths (a .finding) e n k d,
-        λ d. ap (λ (x : TooLarge). marksAfterAll x f lengths d) (a .sizes) ∙ ap (λ (x : Loaded). marksLoaded f x d) e,
-      )
-
-  pub directory-unchanged : BySize z cnxRead f lengths space w ⊎ ByLoad z cnxRead f lengths space w
-      → ((n : TableName) (k : ℕ) (d : List ℕ) → columnThen n k d ≡ d) × ((d : List ℕ) → marksThen d ≡ d)
-  directory-unchanged = ⊎-elim by-size by-load
-
-  pub directory-checked : ByCheck z cnxRead f lengths space w
-      → ((n : TableName) (k : ℕ) (d : List ℕ) → columnThen n k d ≡ columnLeft (loadOf f mostRows lengths) f mostRows n k d)
-      × ((d : List ℕ) → marksThen d ≡ marksAfter (tileSaid f) d)
-  directory-checked a =
-      let e = load.loaded-exactly f mostRows lengths (a .counts) .1 (a .loads) in (
-        λ n k d. ap (λ (x : TooLarge). columnAfter x f lengths n k d) (a .sizes),
-        λ d. ap (λ (x : TooLarge). marksAfterAll x f lengths d) (a .sizes) ∙ ap (λ (x : Loaded). marksLoaded f x d) e,
-      )
+pub directory-check-refused : (c : Counts) (t : Tile) (space : ℕ) (w : Named) → checkedAs c t space ≡ outcome.Refused w
+    → verdictOf t space ≡ verdict.Refused (w .refusal)
+unfolding checkedAs
+directory-check-refused c t space w e = refused-from c t w (verdictOf t space) e

@@ -2,7 +2,7 @@
 use mathlib.Core.Path.{_≡_, refl, sym, ap, subst, _∙_}
 use mathlib.Core.Logic.{_⊎_, inl, inr, ⊎-elim}
 use mathlib.Core.Bool.{Bool, true, false, cond, not, true≢false}
-use mathlib.Core.List.{List, [], _∷_, _++_}
+use mathlib.Core.List.{List, [], _∷_}
 use Prim.Native.Nat.{ℕ, zero, suc, pred, _+_, _-_}
 use borrow.Author.Tests.{eqb-true, eqb-false, eq-eqb}
 use lib.Dec.{eqb, ltb}
@@ -75,17 +75,19 @@ use Rattle.tile.specs.Walk as walk
 use Rattle.tile.specs.Facts as tile
 use Rattle.tile.proofs.RefusedExactly as check
 use Rattle.load.specs.declared.Finding.{Finding}
+use Rattle.load.specs.declared.Loaded.{Loaded}
 use Rattle.load.specs.declared.Loaded.the-variants as loaded
 use Rattle.load.specs.Sources.{Files, fileOf, indexOf}
 use Rattle.load.specs.Load.{loadOf}
 use Rattle.load.specs.Words as load
 use Rattle.load.proofs.LoadedExactly as load-proofs
 use Rattle.report.specs.declared.Sizes.{Sizes}
-use Rattle.report.specs.Files.{mostRows}
+use Rattle.report.specs.declared.TooLarge.{TooLarge}
+use Rattle.report.specs.declared.TooLarge.the-variants.{Is, Nothing}
+use Rattle.report.specs.Files.{mostRows, tooLarge, fileOfFinding}
 use Rattle.directory.specs.declared.Named.{Named}
 use Rattle.directory.specs.declared.Outcome.the-variants as outcome
-use Rattle.directory.specs.Outcome.{tileSaid, outcomeOf}
-use Rattle.directory.proofs.VerdictOfTile as directory-proofs
+use Rattle.directory.specs.Outcome.{named, loadedAs, sizedAs, loadedOf}
 use Rattle.demands.specs.Demands.{Among, ofHeader, ofOpening, ofRow, ofLoad, ofCheck, ofWalk}
 
 -- ---- one of a list, by a computed test
@@ -416,18 +418,18 @@ walk-numbers t r space =
     (either-walk (eqb (startSide t r) 0) _ _ (no-refusal 0)
     (moves-walk r space (moves (t .edg) (startSide t r)) (stuck-named (t .edg) (startSide t r) (side.sideCount (t .edg)) (startSide t r) 0)))))
 
--- ---- a directory judged
+-- ---- a directory loaded
 
-pub directory-numbers : (z : Sizes) (cnxRead : Bool) (f : Files) (lengths : List ℕ) (space : ℕ) (w : Named)
-    → outcomeOf z cnxRead f lengths space ≡ outcome.Refused w → Among (ofLoad ++ ofCheck) (w .refusal .number)
-directory-numbers z cnxRead f lengths space w e =
-    let all = ofLoad ++ ofCheck in
-    let n = w .refusal .number in
-    ⊎-elim (λ a. one-of all n 15 (sym (ap (λ (x : Named). x .refusal .number) (a .says))) refl)
-    (⊎-elim
-    (λ a.
-    let r = a .refused in
-    let h = load-named f mostRows lengths (a .finding) (r .test) (r .fails) in
-    also ofLoad all n refl (subst (λ (x : Named). Among ofLoad (x .refusal .number)) (a .says) h))
-    (λ a. let r = a .refused in also ofCheck all n refl (check-named (tileSaid f) space (r .test) n (w .refusal .place) (r .fails))))
-    (directory-proofs.refused-exactly-when z cnxRead f lengths space w .0 e)
+load-named-by : (f : Files) (lengths : List ℕ) (cnxRead : Bool) (w : Named) (x : TooLarge) (l : Loaded) → loadOf f mostRows lengths ≡ l
+    → sizedAs x (loadedAs cnxRead l) ≡ outcome.Refused w → Among ofLoad (w .refusal .number)
+load-named-by f lengths cnxRead w (Is n) l g e =
+    let h : named n (refusal 15 0) ≡ w = cc in one-of ofLoad (w .refusal .number) 15 (sym (ap (λ (x : Named). x .refusal .number) h)) refl
+load-named-by f lengths cnxRead w Nothing (loaded.Tile c) g e = clash (cc)
+load-named-by f lengths cnxRead w Nothing (loaded.Refused q) g e =
+    let h : named (fileOfFinding cnxRead q) (q .refusal) ≡ w = cc in
+    subst (λ (x : Named). Among ofLoad (x .refusal .number)) h (load-numbers f mostRows lengths q g)
+
+pub directory-load-numbers : (z : Sizes) (cnxRead : Bool) (f : Files) (lengths : List ℕ) (w : Named) → loadedOf z cnxRead f lengths ≡ outcome.Refused w
+    → Among ofLoad (w .refusal .number)
+unfolding loadedOf
+directory-load-numbers z cnxRead f lengths w e = load-named-by f lengths cnxRead w (tooLarge z cnxRead) (loadOf f mostRows lengths) refl e

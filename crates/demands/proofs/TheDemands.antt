@@ -3,9 +3,7 @@ use mathlib.Core.Path.{_≡_, sym, ap, _∙_}
 use mathlib.Core.Bool.{Bool}
 use mathlib.Core.List.{List}
 use Prim.Native.Nat.{ℕ, _*_}
-use lib.ListN.{length, take, drop}
-use lib.Seq.{take-at}
-use Rattle.laws.specs.Buffer.{listed}
+use lib.ListN.{length}
 use Rattle.laws.specs.Sums.{sum}
 use Rattle.triplet.proofs.ReadExactly as triplet
 use Rattle.triplet.proofs.WrittenExactly as written
@@ -18,30 +16,24 @@ use Rattle.table.proofs.RowExactly.{row-of-exactly}
 use Rattle.table.proofs.RowRefusedExactly.{row-of-refused-exactly}
 use Rattle.table.proofs.ValueOfRow.{value-of-row}
 use Rattle.rectangle.proofs.RectangleExactly as rectangle
-use Rattle.load.specs.declared.TableName.{TableName}
-use Rattle.load.specs.declared.TableName.the-variants.{Edg, Fac, Rng, Cnd}
 use Rattle.load.specs.declared.Counts.{Counts}
-use Rattle.load.specs.declared.Loaded.{Loaded}
-use Rattle.load.specs.declared.Loaded.the-variants.{Tile}
-use Rattle.load.specs.Sources.{Files, tableIn, tablesOf}
-use Rattle.load.specs.Load.{loadOf, cellsOf, columnLeft}
-use Rattle.load.specs.Words.{countOf}
+use Rattle.load.specs.Sources.{Files}
+use Rattle.load.specs.Load.{loadOf}
 use Rattle.load.proofs.LoadedExactly as load
 use Rattle.load.proofs.WhatIsWritten.{element-is-value, rest-as-it-was}
 use Rattle.tile.specs.Walk.{ringSteps}
-use Rattle.tile.specs.Check.{marksAfter}
 use Rattle.tile.proofs.AcceptedExactly as check
 use Rattle.tile.proofs.RefusedExactly as tile
 use Rattle.tile.proofs.DemandThree.{demand3}
 use Rattle.report.specs.declared.Sizes.{Sizes}
 use Rattle.report.specs.declared.TooLarge.{TooLarge}
-use Rattle.report.specs.Files.{mostRows, tooLarge}
+use Rattle.report.specs.Files.{mostRows}
 use Rattle.directory.specs.declared.Outcome.the-variants.{Accepted}
-use Rattle.directory.specs.Outcome.{column, tileSaid, outcomeOf, columnAfter, marksLoaded, marksAfterAll}
+use Rattle.directory.specs.Outcome.{tileSaid, loadedAs, sizedAs, loadedOf, outcomeOf}
 use Rattle.directory.specs.Words.{AcceptedWith}
-use Rattle.directory.proofs.OutcomeLaws.{tile-is}
+use Rattle.directory.proofs.OutcomeLaws.{held-said}
 use Rattle.directory.proofs.VerdictOfTile as directory
-use Rattle.demands.specs.Demands.{Demand1, Demand2, Demand3, frontLeft, DirectoryWalked}
+use Rattle.demands.specs.Demands.{Demand1, Demand2, Demand3, DirectoryWalked}
 use Rattle.demands.proofs.NumbersNamed as numbers
 use Rattle.demands.proofs.BuffersKept as buffers
 
@@ -68,9 +60,9 @@ demand-1 = record {
   check-zeroed = buffers.check-zeroed;
   walk-numbers = numbers.walk-numbers;
   walk-unchanged = buffers.walk-unchanged;
-  directory-numbers = numbers.directory-numbers;
-  directory-unchanged = buffers.directory-unchanged;
-  directory-checked = buffers.directory-checked;
+  directory-load-numbers = numbers.directory-load-numbers;
+  directory-load-unchanged = buffers.directory-load-unchanged;
+  directory-check-refused = buffers.directory-check-refused;
 }
 
 -- ======== DEMAND 2
@@ -128,19 +120,11 @@ module _ (z : Sizes) (cnxRead : Bool) (f : Files) (lengths marks : List ℕ) (c 
   in-words : AcceptedWith z cnxRead f lengths (length marks) c
   in-words = directory.accepted-exactly z cnxRead f lengths (length marks) c .0 e
 
-  loads : loadOf f mostRows lengths ≡ Tile c
-  loads = load.loaded-exactly f mostRows lengths c .1 (in-words .loads)
-
-  column-kept : (n : TableName) (k : ℕ) (d : List ℕ) → frontLeft z cnxRead f lengths c n k d ≡ column f n k
-  column-kept n k d =
-      let g = cellsOf f mostRows n k in
-      let rows = tableIn (tablesOf f mostRows) n .rows in
-      ap (λ (x : TooLarge). take (countOf c n) (columnAfter x f lengths n k d)) (in-words .sizes)
-      ∙ ap (λ (x : Loaded). take (countOf c n) (columnLeft x f mostRows n k d)) loads
-      ∙ take-at (listed g rows) (drop rows d) (countOf c n) (directory.column-counted f lengths c (in-words .loads) n k)
-
-  owners-kept : marksAfterAll (tooLarge z cnxRead) f lengths marks ≡ marksAfter (tileSaid f) marks
-  owners-kept = ap (λ (x : TooLarge). marksAfterAll x f lengths marks) (in-words .sizes) ∙ ap (λ (x : Loaded). marksLoaded f x marks) loads
+  load-answered : loadedOf z cnxRead f lengths ≡ Accepted c
+  unfolding loadedOf
+  load-answered =
+      ap (λ (x : TooLarge). sizedAs x (loadedAs cnxRead (loadOf f mostRows lengths))) (in-words .sizes)
+      ∙ ap (loadedAs cnxRead) (load.loaded-exactly f mostRows lengths c .1 (in-words .loads))
 
   walked : DirectoryWalked z cnxRead f lengths marks c
   walked =
@@ -155,11 +139,8 @@ module _ (z : Sizes) (cnxRead : Bool) (f : Files) (lengths marks : List ℕ) (c 
         counts-faces = directory.counts-faces f lengths c h;
         counts-rings = rings;
         counts-nodes = directory.counts-nodes f lengths c h;
-        columns = column-kept;
-        held = λ sn en rf lf re le rp fi se fe.
-            tile-is f _ _ _ _ _ _ _ _ _ _ (column-kept Edg 1 sn) (column-kept Edg 2 en) (column-kept Edg 3 rf) (column-kept Edg 4 lf) (column-kept Edg 5 re) (column-kept Edg 6 le)
-            (column-kept Fac 7 rp) (column-kept Rng 8 fi) (column-kept Rng 9 se) (column-kept Cnd 10 fe);
-        owners = owners-kept;
+        loads = load-answered;
+        columns = held-said z cnxRead f lengths c load-answered;
         walks = w;
         steps = ap (sum (ringSteps (tileSaid f))) (sym rings) ∙ w .adds-up ∙ ap (λ (n : ℕ). 2 * n) edges;
       }

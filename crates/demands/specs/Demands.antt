@@ -6,7 +6,7 @@ use mathlib.Core.Bool.{Bool}
 use mathlib.Core.List.{List, [], _∷_, _++_}
 use Prim.Native.Nat.{ℕ, suc, pred, _+_, _*_, _≤_, _<_}
 use lib.Ieee.{Format}
-use lib.ListN.{length, getD, take, drop}
+use lib.ListN.{length, getD, drop}
 use Rattle.laws.specs.Lowest.{In}
 use Rattle.laws.specs.Sums.{sum}
 use Rattle.laws.specs.Buffer.{front}
@@ -51,7 +51,7 @@ use Rattle.load.specs.Sources.{Files, fileOf, indexOf, tableOf, nameAt, tableAt
 use Rattle.load.specs.Load.{loadOf, columnLeft}
 use Rattle.load.specs.Words as load
 use Rattle.side.specs.Edges.{edges}
-use Rattle.tile.specs.Columns.{Tile, tile as tile-of, E, F, R, N, sides}
+use Rattle.tile.specs.Columns.{Tile, E, F, R, N, sides}
 use Rattle.tile.specs.declared.Verdict.the-variants as verdict
 use Rattle.tile.specs.declared.Walked.the-variants as walked
 use Rattle.tile.specs.Check.{verdictOf, marksAfter}
@@ -59,10 +59,9 @@ use Rattle.tile.specs.Walk.{walkOf, sidesWritten, ringSteps}
 use Rattle.tile.specs.Facts as tile
 use Rattle.tile.specs.Demand.{Demand3 as Walked}
 use Rattle.report.specs.declared.Sizes.{Sizes}
-use Rattle.report.specs.Files.{mostRows, tooLarge}
 use Rattle.directory.specs.declared.Named.{Named}
 use Rattle.directory.specs.declared.Outcome.the-variants as outcome
-use Rattle.directory.specs.Outcome.{column, tileSaid, outcomeOf, columnAfter, marksAfterAll}
+use Rattle.directory.specs.Outcome.{tileSaid, held, loadedOf, columnAfter, checkedAs, outcomeOf}
 use Rattle.directory.specs.Words as directory
 
 -- ======== DEMAND 1
@@ -128,18 +127,14 @@ pub record Demand1 : Type 0 where
   pub walk-numbers : (t : Tile) (r space : ℕ) (q : Refusal) → walkOf t r space ≡ walked.Refused q → Among ofWalk (q .number)
   pub walk-unchanged : (t : Tile) (r : ℕ) (out : List ℕ) (q : Refusal) → walkOf t r (length out) ≡ walked.Refused q
       → sidesWritten t r (walkOf t r (length out)) out ≡ out
-  -- a directory judged: a refusal by size or of the load leaves columns and marks as they were
-  pub directory-numbers : (z : Sizes) (cnxRead : Bool) (f : Files) (lengths : List ℕ) (space : ℕ) (w : Named)
-      → outcomeOf z cnxRead f lengths space ≡ outcome.Refused w → Among (ofLoad ++ ofCheck) (w .refusal .number)
-  pub directory-unchanged : (z : Sizes) (cnxRead : Bool) (f : Files) (lengths : List ℕ) (space : ℕ) (w : Named)
-      → directory.BySize z cnxRead f lengths space w ⊎ directory.ByLoad z cnxRead f lengths space w
-      → ((n : TableName) (k : ℕ) (d : List ℕ) → columnAfter (tooLarge z cnxRead) f lengths n k d ≡ d)
-      × ((marks : List ℕ) → marksAfterAll (tooLarge z cnxRead) f lengths marks ≡ marks)
-  -- one of the check, which comes after the load, leaves in the columns what the load wrote, and of the marks what the check leaves
-  pub directory-checked : (z : Sizes) (cnxRead : Bool) (f : Files) (lengths : List ℕ) (space : ℕ) (w : Named)
-      → directory.ByCheck z cnxRead f lengths space w
-      → ((n : TableName) (k : ℕ) (d : List ℕ) → columnAfter (tooLarge z cnxRead) f lengths n k d ≡ columnLeft (loadOf f mostRows lengths) f mostRows n k d)
-      × ((marks : List ℕ) → marksAfterAll (tooLarge z cnxRead) f lengths marks ≡ marksAfter (tileSaid f) marks)
+  -- a directory loaded: each lent column is as it was
+  pub directory-load-numbers : (z : Sizes) (cnxRead : Bool) (f : Files) (lengths : List ℕ) (w : Named) → loadedOf z cnxRead f lengths ≡ outcome.Refused w
+      → Among ofLoad (w .refusal .number)
+  pub directory-load-unchanged : (z : Sizes) (cnxRead : Bool) (f : Files) (lengths : List ℕ) (w : Named) → loadedOf z cnxRead f lengths ≡ outcome.Refused w
+      → (n : TableName) (k : ℕ) (d : List ℕ) → columnAfter (loadedOf z cnxRead f lengths) f n k d ≡ d
+  -- its tile checked: the refusal is the check's own, so that the marks are left as the check leaves them
+  pub directory-check-refused : (c : Counts) (t : Tile) (space : ℕ) (w : Named) → checkedAs c t space ≡ outcome.Refused w
+      → verdictOf t space ≡ verdict.Refused (w .refusal)
 
 -- ======== DEMAND 2
 -- "Headers, rows, indexes, triplet ids mean what the standard and document 01 say. A header is accepted exactly when it meets the grammar,
@@ -212,8 +207,8 @@ pub record TileMeans (t : Tile) (space : ℕ) : Type 0 where
   pub accepted : (verdictOf t space ≡ verdict.Accepted) ↔ tile.Facts t space
   pub refused : (n p : ℕ) → (verdictOf t space ≡ verdict.Refused (refusal n p)) ↔ tile.RefusedWith t space n p
 
--- a directory judged: its verdict is the check's verdict on the tile that its files say. (`judge` answers with `cnxRead` what cnd's header shows,
--- `f` the six files that it is lent, `lengths` and `space` those of its columns and marks; the statements hold of any.)
+-- a directory loaded, then checked: its verdict is the check's verdict on the tile that its files say. (`load_files` takes as `cnxRead` what cnd's
+-- header shows, as `f` the six files that it is lent, as `lengths` those of its columns; the statements hold of any.)
 pub record DirectoryMeans (z : Sizes) (cnxRead : Bool) (f : Files) (lengths : List ℕ) (space : ℕ) : Type 0 where
   pub accepted : (c : Counts) → (outcomeOf z cnxRead f lengths space ≡ outcome.Accepted c) ↔ directory.AcceptedWith z cnxRead f lengths space c
   pub refused : (w : Named) → (outcomeOf z cnxRead f lengths space ≡ outcome.Refused w) ↔ directory.RefusedWith z cnxRead f lengths space w
@@ -233,9 +228,9 @@ pub record Demand2 : Type 0 where
 -- every side lies on exactly one ring's walk, and that ring bears its face; the steps of all rings add up to exactly 2E (one empty ring and
 -- 0 where E = 0)." `Walked t marks` has a field for each of these: it is `Demand3` of crate `tile` (specs/Demand.antt).
 
--- the front of the lent column of place k in table n, d before: as many numbers as c counts
-abbrev pub frontLeft : Sizes → Bool → Files → List ℕ → Counts → TableName → ℕ → List ℕ → List ℕ
-frontLeft z cnxRead f lengths c n k d = take (load.countOf c n) (columnAfter (tooLarge z cnxRead) f lengths n k d)
+-- the lent column of place k in table n, d before, where a load has answered with the counts c
+abbrev pub loadedColumn : Files → Counts → TableName → ℕ → List ℕ → List ℕ
+loadedColumn f c n k d = columnAfter (outcome.Accepted c) f n k d
 
 -- the same of a directory that is accepted with the counts c; `marks` are the lent owner marks
 pub record DirectoryWalked (z : Sizes) (cnxRead : Bool) (f : Files) (lengths marks : List ℕ) (c : Counts) : Type 0 where
@@ -245,16 +240,12 @@ pub record DirectoryWalked (z : Sizes) (cnxRead : Bool) (f : Files) (lengths mar
   pub counts-faces : F (tileSaid f) ≡ c .faces
   pub counts-rings : R (tileSaid f) ≡ c .rings
   pub counts-nodes : N (tileSaid f) ≡ c .nodes
-  -- that tile stands at the front of the ten lent columns, where `walk_ring` walks it, and the marks are those that the check leaves
-  pub columns : (n : TableName) (k : ℕ) (d : List ℕ) → frontLeft z cnxRead f lengths c n k d ≡ column f n k
-  pub held : (sn en rf lf re le rp fi se fe : List ℕ)
-      → tile-of
-      (edges (frontLeft z cnxRead f lengths c Edg 1 sn) (frontLeft z cnxRead f lengths c Edg 2 en) (frontLeft z cnxRead f lengths c Edg 3 rf)
-      (frontLeft z cnxRead f lengths c Edg 4 lf) (frontLeft z cnxRead f lengths c Edg 5 re) (frontLeft z cnxRead f lengths c Edg 6 le))
-      (frontLeft z cnxRead f lengths c Fac 7 rp) (frontLeft z cnxRead f lengths c Rng 8 fi) (frontLeft z cnxRead f lengths c Rng 9 se)
-      (frontLeft z cnxRead f lengths c Cnd 10 fe)
+  -- that tile stands at the front of the ten lent columns, where `check_loaded` checks and `walk_ring` walks it
+  pub loads : loadedOf z cnxRead f lengths ≡ outcome.Accepted c
+  pub columns : (sn en rf lf re le rp fi se fe : List ℕ)
+      → held c (loadedColumn f c Edg 1 sn) (loadedColumn f c Edg 2 en) (loadedColumn f c Edg 3 rf) (loadedColumn f c Edg 4 lf) (loadedColumn f c Edg 5 re)
+      (loadedColumn f c Edg 6 le) (loadedColumn f c Fac 7 rp) (loadedColumn f c Rng 8 fi) (loadedColumn f c Rng 9 se) (loadedColumn f c Cnd 10 fe)
       ≡ tileSaid f
-  pub owners : marksAfterAll (tooLarge z cnxRead) f lengths marks ≡ marksAfter (tileSaid f) marks
   -- demand 3 holds of it, and so the steps of all its ring rows add up to twice the edges
   pub walks : Walked (tileSaid f) marks
   pub steps : sum (ringSteps (tileSaid f)) (c .rings) ≡ 2 * c .edges

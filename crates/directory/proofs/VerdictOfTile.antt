@@ -30,7 +30,7 @@ use Rattle.report.specs.declared.TooLarge.the-variants.{Is, Nothing}
 use Rattle.report.specs.Files.{mostRows, tooLarge, fileOfVerdict}
 use Rattle.directory.specs.declared.Named.{Named}
 use Rattle.directory.specs.declared.Outcome.the-variants.{Accepted, Refused}
-use Rattle.directory.specs.Outcome.{named, column, tileSaid, checkedFrom, checkedAs, loadedAs, sizedAs, outcomeOf}
+use Rattle.directory.specs.Outcome.{named, column, tileSaid, checkedFrom, checkedAs, loadedAs, sizedAs, loadedOf, thenChecked, outcomeOf}
 use Rattle.directory.specs.Words.{AcceptedWith, BySize, ByLoad, ByCheck, RefusedWith}
 
 -- ---- the counts of a loaded tile are the lengths of its columns
@@ -79,49 +79,48 @@ module _ (z : Sizes) (k : Bool) (f : Files) (lengths : List ℕ) (space : ℕ) w
   abbrev load : Loaded
   load = loadOf f mostRows lengths
 
-  outcome-sized : (x : TooLarge) → tooLarge z k ≡ x → outcomeOf z k f lengths space ≡ sizedAs x k f load space
-  unfolding outcomeOf
-  outcome-sized x e = ap (λ (x : TooLarge). sizedAs x k f load space) e
-
-  outcome-loaded : tooLarge z k ≡ Nothing → (l : Loaded) → load ≡ l → outcomeOf z k f lengths space ≡ loadedAs k f l space
-  outcome-loaded e l g = outcome-sized Nothing e ∙ ap (λ (l : Loaded). loadedAs k f l space) g
+  -- the outcome, where these are the answers of its stages
+  outcome-staged : (x : TooLarge) → tooLarge z k ≡ x → (l : Loaded) → load ≡ l → outcomeOf z k f lengths space ≡ thenChecked (sizedAs x (loadedAs k l)) t space
+  unfolding outcomeOf loadedOf
+  outcome-staged x e l g =
+      ap (λ (x : TooLarge). thenChecked (sizedAs x (loadedAs k load)) t space) e ∙ ap (λ (l : Loaded). thenChecked (sizedAs x (loadedAs k l)) t space) g
 
   outcome-checked : tooLarge z k ≡ Nothing → (c : Counts) → load ≡ loaded.Tile c → (v : Verdict) → verdictOf t space ≡ v
       → outcomeOf z k f lengths space ≡ checkedFrom c t v
   unfolding checkedAs
-  outcome-checked e c g v h = outcome-loaded e (loaded.Tile c) g ∙ ap (checkedFrom c t) h
+  outcome-checked e c g v h = outcome-staged Nothing e (loaded.Tile c) g ∙ ap (checkedFrom c t) h
 
   -- ---- accepted exactly
 
   module _ (c : Counts) where
-    at-load : (l : Loaded) → load ≡ l → tooLarge z k ≡ Nothing → loadedAs k f l space ≡ Accepted c → AcceptedWith z k f lengths space c
+    accepted-by : (x : TooLarge) → tooLarge z k ≡ x → (l : Loaded) → load ≡ l → thenChecked (sizedAs x (loadedAs k l)) t space ≡ Accepted c
+        → AcceptedWith z k f lengths space c
     unfolding checkedAs
-    at-load (loaded.Tile d) g s e =
+    accepted-by (Is n) s l g e = clash (cc)
+    accepted-by Nothing s (loaded.Tile d) g e =
         let w = checked-accepted t d c (verdictOf t space) e in
         record {
           sizes = s;
           loads = loaded-exactly f mostRows lengths c .0 (g ∙ ap loaded.Tile (w .1));
           facts = check.accepted t space (w .0);
         }
-    at-load (loaded.Refused q) g s e = clash (cc)
-
-    at-size : (x : TooLarge) → tooLarge z k ≡ x → sizedAs x k f load space ≡ Accepted c → AcceptedWith z k f lengths space c
-    at-size (Is n) s e = clash (cc)
-    at-size Nothing s e = at-load load refl s e
+    accepted-by Nothing s (loaded.Refused q) g e = clash (cc)
 
     -- A DIRECTORY IS ACCEPTED EXACTLY WHEN no file is too large, its files load, and the tile that they say has all of the facts
     pub accepted-exactly : (outcomeOf z k f lengths space ≡ Accepted c) ↔ AcceptedWith z k f lengths space c
     accepted-exactly = (
-      λ e. at-size (tooLarge z k) refl (sym (outcome-sized (tooLarge z k) refl) ∙ e),
+      λ e. accepted-by (tooLarge z k) refl load refl (sym (outcome-staged (tooLarge z k) refl load refl) ∙ e),
       λ a. outcome-checked (a .sizes) c (loaded-exactly f mostRows lengths c .1 (a .loads)) verdict.Accepted (check.facts-accepted t space (a .facts)),
     )
 
   -- ---- refused exactly
 
   module _ (w : Named) where
-    load-said : (l : Loaded) → load ≡ l → tooLarge z k ≡ Nothing → loadedAs k f l space ≡ Refused w → RefusedWith z k f lengths space w
+    refused-by : (x : TooLarge) → tooLarge z k ≡ x → (l : Loaded) → load ≡ l → thenChecked (sizedAs x (loadedAs k l)) t space ≡ Refused w
+        → RefusedWith z k f lengths space w
     unfolding checkedAs
-    load-said (loaded.Tile c) g s e =
+    refused-by (Is n) s l g e = inl (record { file = n; size = s; says = cc })
+    refused-by Nothing s (loaded.Tile c) g e =
         let x = checked-refused t c w (verdictOf t space) e in
         let q : x .0 ≡ w .refusal = ap (λ (n : Named). n .refusal) (x .2) in
         inr (inr (record {
@@ -131,19 +130,15 @@ module _ (z : Sizes) (k : Bool) (f : Files) (lengths : List ℕ) (space : ℕ) w
           refused = refused t space (w .refusal .number) (w .refusal .place) (x .1 ∙ ap verdict.Refused q);
           says = ap (λ (r : Refusal). named (fileOfVerdict (t .facId) (F t) r) r) (sym q) ∙ x .2;
         }))
-    load-said (loaded.Refused q) g s e =
+    refused-by Nothing s (loaded.Refused q) g e =
         inr (inl (record { sizes = s; finding = q; refused = refused-exactly f mostRows lengths q .0 g; says = cc }))
 
-    size-said : (x : TooLarge) → tooLarge z k ≡ x → sizedAs x k f load space ≡ Refused w → RefusedWith z k f lengths space w
-    size-said (Is n) s e = inl (record { file = n; size = s; says = cc })
-    size-said Nothing s e = load-said load refl s e
-
     of-size : BySize z k f lengths space w → outcomeOf z k f lengths space ≡ Refused w
-    of-size a = outcome-sized (Is (a .file)) (a .size) ∙ ap Refused (a .says)
+    of-size a = outcome-staged (Is (a .file)) (a .size) load refl ∙ ap Refused (a .says)
 
     of-load : ByLoad z k f lengths space w → outcomeOf z k f lengths space ≡ Refused w
     of-load a =
-        outcome-loaded (a .sizes) (loaded.Refused (a .finding)) (refused-exactly f mostRows lengths (a .finding) .1 (a .refused)) ∙ ap Refused (a .says)
+        outcome-staged Nothing (a .sizes) (loaded.Refused (a .finding)) (refused-exactly f mostRows lengths (a .finding) .1 (a .refused)) ∙ ap Refused (a .says)
 
     of-check : ByCheck z k f lengths space w → outcomeOf z k f lengths space ≡ Refused w
     of-check a =
@@ -154,6 +149,6 @@ module _ (z : Sizes) (k : Bool) (f : Files) (lengths : List ℕ) (space : ℕ) w
     -- A DIRECTORY IS REFUSED EXACTLY WHEN a file is too large, or else the load refuses it, or else the check does; with their own refusal
     pub refused-exactly-when : (outcomeOf z k f lengths space ≡ Refused w) ↔ RefusedWith z k f lengths space w
     refused-exactly-when = (
-      λ e. size-said (tooLarge z k) refl (sym (outcome-sized (tooLarge z k) refl) ∙ e),
+      λ e. refused-by (tooLarge z k) refl load refl (sym (outcome-staged (tooLarge z k) refl load refl) ∙ e),
       ⊎-elim of-size (⊎-elim of-load of-check),
     )

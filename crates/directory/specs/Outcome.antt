@@ -3,6 +3,7 @@
 use mathlib.Core.Bool.{Bool, cond}
 use mathlib.Core.List.{List, []}
 use Prim.Native.Nat.{ℕ}
+use lib.ListN.{take}
 use Rattle.laws.specs.Buffer.{listed}
 use Rattle.refusal.specs.declared.Refusal.{Refusal}
 use Rattle.refusal.specs.Order.{refusal}
@@ -10,7 +11,7 @@ use Rattle.side.specs.Edges.{edges}
 use Rattle.tile.specs.Columns.{Tile, tile, F}
 use Rattle.tile.specs.declared.Verdict.{Verdict}
 use Rattle.tile.specs.declared.Verdict.the-variants as verdict
-use Rattle.tile.specs.Check.{verdictOf, marksAfter}
+use Rattle.tile.specs.Check.{verdictOf}
 use Rattle.load.specs.declared.TableName.{TableName}
 use Rattle.load.specs.declared.TableName.the-variants.{Edg, Fac, Rng, Cnd}
 use Rattle.load.specs.declared.Counts.{Counts}
@@ -46,38 +47,48 @@ tileSaid f =
     (edges (column f Edg 1) (column f Edg 2) (column f Edg 3) (column f Edg 4) (column f Edg 5) (column f Edg 6))
     (column f Fac 7) (column f Rng 8) (column f Rng 9) (column f Cnd 10)
 
--- ---- what is answered
+-- the tile that stands at the front of ten columns: as many rows of each as the counts say
+abbrev pub held : Counts → List ℕ → List ℕ → List ℕ → List ℕ → List ℕ → List ℕ → List ℕ → List ℕ → List ℕ → List ℕ → Tile
+held c startNode endNode rightFace leftFace rightEdge leftEdge ringPtr facId startEdge firstEdge =
+    tile
+    (edges (take (c .edges) startNode) (take (c .edges) endNode) (take (c .edges) rightFace) (take (c .edges) leftFace) (take (c .edges) rightEdge) (take (c .edges) leftEdge))
+    (take (c .faces) ringPtr) (take (c .rings) facId) (take (c .rings) startEdge) (take (c .nodes) firstEdge)
+
+-- ---- loaded: sizes first, then the load's own answer, with the file that a refusal speaks of
+
+abbrev pub loadedAs : Bool → Loaded → Outcome
+loadedAs cnxRead (loaded.Tile c) = Accepted c
+loadedAs cnxRead (loaded.Refused q) = Refused (named (fileOfFinding cnxRead q) (q .refusal))
+
+abbrev pub sizedAs : TooLarge → Outcome → Outcome
+sizedAs (Is n) rest = Refused (named n (refusal 15 0))
+sizedAs Nothing rest = rest
+
+-- THE ANSWER TO A LOAD of a directory; `lengths` are those of the ten lent columns
+unfoldable pub loadedOf : Sizes → Bool → Files → List ℕ → Outcome
+loadedOf z cnxRead f lengths = sizedAs (tooLarge z cnxRead) (loadedAs cnxRead (loadOf f mostRows lengths))
+
+-- what it leaves in the lent column of place k in table n: the column that the files say, over what was there; a refusal changes nothing
+abbrev pub columnAfter : Outcome → Files → TableName → ℕ → List ℕ → List ℕ
+columnAfter (Accepted c) f n k d = columnLeft (loaded.Tile c) f mostRows n k d
+columnAfter (Refused w) f n k d = d
+
+-- ---- checked: the check's own answer, with the file that a refusal speaks of
 
 abbrev pub checkedFrom : Counts → Tile → Verdict → Outcome
 checkedFrom c t verdict.Accepted = Accepted c
 checkedFrom c t (verdict.Refused q) = Refused (named (fileOfVerdict (t .facId) (F t) q) q)
 
--- the check's verdict on a tile; `space` is that of the owner marks
+-- THE ANSWER TO A CHECK of a tile; `space` is that of the owner marks
 unfoldable pub checkedAs : Counts → Tile → ℕ → Outcome
 checkedAs c t space = checkedFrom c t (verdictOf t space)
 
-abbrev pub loadedAs : Bool → Files → Loaded → ℕ → Outcome
-loadedAs cnxRead f (loaded.Tile c) space = checkedAs c (tileSaid f) space
-loadedAs cnxRead f (loaded.Refused q) space = Refused (named (fileOfFinding cnxRead q) (q .refusal))
+-- ---- both
 
-abbrev pub sizedAs : TooLarge → Bool → Files → Loaded → ℕ → Outcome
-sizedAs (Is n) cnxRead f l space = Refused (named n (refusal 15 0))
-sizedAs Nothing cnxRead f l space = loadedAs cnxRead f l space
+abbrev pub thenChecked : Outcome → Tile → ℕ → Outcome
+thenChecked (Accepted c) t space = checkedAs c t space
+thenChecked (Refused w) t space = Refused w
 
--- THE OUTCOME for a directory; `lengths` are those of the ten lent columns, `space` that of the owner marks
+-- THE OUTCOME for a directory: the tile that its files say, loaded, then checked
 unfoldable pub outcomeOf : Sizes → Bool → Files → List ℕ → ℕ → Outcome
-outcomeOf z cnxRead f lengths space = sizedAs (tooLarge z cnxRead) cnxRead f (loadOf f mostRows lengths) space
-
--- ---- what is left in the lent columns and marks: a file too large changes nothing
-
-abbrev pub columnAfter : TooLarge → Files → List ℕ → TableName → ℕ → List ℕ → List ℕ
-columnAfter (Is n) f lengths t k d = d
-columnAfter Nothing f lengths t k d = columnLeft (loadOf f mostRows lengths) f mostRows t k d
-
-abbrev pub marksLoaded : Files → Loaded → List ℕ → List ℕ
-marksLoaded f (loaded.Tile c) d = marksAfter (tileSaid f) d
-marksLoaded f (loaded.Refused q) d = d
-
-abbrev pub marksAfterAll : TooLarge → Files → List ℕ → List ℕ → List ℕ
-marksAfterAll (Is n) f lengths d = d
-marksAfterAll Nothing f lengths d = marksLoaded f (loadOf f mostRows lengths) d
+outcomeOf z cnxRead f lengths space = thenChecked (loadedOf z cnxRead f lengths) (tileSaid f) space

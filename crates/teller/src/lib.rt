@@ -1,6 +1,6 @@
 // Writes to standard output what document 01 says of a tile: the counts, each ring with its steps and the steps of all, or the refusal
-// with its file, number and place. What decides, and every line's bytes, stand in the libraries below; no contract can say what a
-// program writes.
+// with its file, number and place. What decides, and every line's bytes, stand in the libraries below. A contract says what is answered;
+// none can say what a program writes.
 use directory::Named;
 use directory::Outcome;
 use libc::STDOUT_FILENO;
@@ -9,6 +9,12 @@ use report::Sizes;
 use report::LINE_ROOM;
 use report::MOST_ROWS;
 use tile::Walked;
+ghost use mathlib.Core.Path.{_≡_};
+ghost use Prim.Native.Nat.{_*_};
+ghost use lib.ListN.{length, replicate};
+ghost use Rattle.load.specs.Load.{lengthsOf};
+ghost use Rattle.report.specs.Files.{mostRows, showsTriplet};
+ghost use Rattle.directory.specs.Outcome.{filesRead, outcomeOf};
 
 // Two sides to an edge.
 const MOST_SIDES: usize = 2000;
@@ -101,8 +107,39 @@ fn say_rings(
     all
 }
 
-// Judges the files of a directory, each with its size, and says it.
-pub fn tell_tile(sizes: Sizes, edg: &[u8], edx: &[u8], fac: &[u8], rng: &[u8], cnd: &[u8], cnx: &[u8]) {
+// Loads the files of a directory, each with its size, and checks the tile that they say.
+fn judge(
+    sizes: Sizes,
+    edg: &[u8],
+    edx: &[u8],
+    fac: &[u8],
+    rng: &[u8],
+    cnd: &[u8],
+    cnx: &[u8],
+    start_node: &mut [u32],
+    end_node: &mut [u32],
+    right_face: &mut [u32],
+    left_face: &mut [u32],
+    right_edge: &mut [u32],
+    left_edge: &mut [u32],
+    ring_ptr: &mut [u32],
+    fac_id: &mut [u32],
+    start_edge: &mut [u32],
+    first_edge: &mut [u32],
+    marks: &mut [u32],
+) -> Outcome
+    ensures { λ r. ⌜ r ≡ outcomeOf sizes (showsTriplet (now (cnd .entry))) (filesRead (now (edg .entry)) (now (edx .entry)) (now (fac .entry)) (now (rng .entry)) (now (cnd .entry)) (now (cnx .entry))) (lengthsOf (now («start_node» .entry)) (now («end_node» .entry)) (now («right_face» .entry)) (now («left_face» .entry)) (now («right_edge» .entry)) (now («left_edge» .entry)) (now («ring_ptr» .entry)) (now («fac_id» .entry)) (now («start_edge» .entry)) (now («first_edge» .entry))) (length (now (marks .entry))) ⌝ }
+{
+    match directory::load_files(sizes, edg, edx, fac, rng, cnd, cnx, start_node, end_node, right_face, left_face, right_edge, left_edge, ring_ptr, fac_id, start_edge, first_edge) {
+        Outcome::Accepted(counts) => directory::check_loaded(counts, start_node, end_node, right_face, left_face, right_edge, left_edge, ring_ptr, fac_id, start_edge, first_edge, marks),
+        Outcome::Refused(named) => Outcome::Refused(named),
+    }
+}
+
+// Judges the files of a directory, each with its size, and says it; what was said is the answer.
+pub fn tell_tile(sizes: Sizes, edg: &[u8], edx: &[u8], fac: &[u8], rng: &[u8], cnd: &[u8], cnx: &[u8]) -> Outcome
+    ensures { λ r. ⌜ r ≡ outcomeOf sizes (showsTriplet (now (cnd .entry))) (filesRead (now (edg .entry)) (now (edx .entry)) (now (fac .entry)) (now (rng .entry)) (now (cnd .entry)) (now (cnx .entry))) (replicate 10 mostRows) (2 * mostRows) ⌝ }
+{
     let mut start_node = [0u32; MOST_ROWS];
     let mut end_node = [0u32; MOST_ROWS];
     let mut right_face = [0u32; MOST_ROWS];
@@ -114,11 +151,13 @@ pub fn tell_tile(sizes: Sizes, edg: &[u8], edx: &[u8], fac: &[u8], rng: &[u8], c
     let mut start_edge = [0u32; MOST_ROWS];
     let mut first_edge = [0u32; MOST_ROWS];
     let mut marks = [0u32; MOST_SIDES];
-    match directory::judge(sizes, edg, edx, fac, rng, cnd, cnx, &mut start_node, &mut end_node, &mut right_face, &mut left_face, &mut right_edge, &mut left_edge, &mut ring_ptr, &mut fac_id, &mut start_edge, &mut first_edge, &mut marks) {
+    let outcome = judge(sizes, edg, edx, fac, rng, cnd, cnx, &mut start_node, &mut end_node, &mut right_face, &mut left_face, &mut right_edge, &mut left_edge, &mut ring_ptr, &mut fac_id, &mut start_edge, &mut first_edge, &mut marks);
+    match outcome {
         Outcome::Accepted(counts) => {
             say_counts(counts);
             say_steps(say_rings(counts, &start_node, &end_node, &right_face, &left_face, &right_edge, &left_edge, &ring_ptr, &fac_id, &start_edge, &first_edge));
         }
         Outcome::Refused(named) => say_refused(named),
     }
+    outcome
 }

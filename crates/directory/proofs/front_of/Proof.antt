@@ -1,14 +1,11 @@
 use lib.Seq.{take-all}
 use lib.ListN.{take}
 use Prim.Native.Nat.{ℕ}
-use mathlib.Core.List.{List}
 use native.Mathlib.Nat.{sub-zero}
-use mathlib.Core.Path.{sym, ap, _∙_}
+use mathlib.Core.Path.{sym, ap}
 use borrow.Author.Needs.{needs}
 use Rattle.directory.proofs.front_of.Statement.{statement}
 use Rattle.directory.proofs.front_of.Tie as tie
-use Rattle.directory.proofs.front_of.Reads as reads
-use Rattle.directory.proofs.front_of.Lts as lts
 
 -- src/lib.rt:174:9
 returns : tie.Need-returns

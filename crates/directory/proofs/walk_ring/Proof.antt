@@ -1,10 +1,6 @@
 use borrow.Author.Needs.{needs}
 use Rattle.directory.proofs.walk_ring.Statement.{statement}
 use Rattle.directory.proofs.walk_ring.Tie as tie
-use Rattle.directory.proofs.walk_ring.Reads as reads
-use Rattle.directory.proofs.walk_ring.Lts as lts
-use Rattle.directory.proofs.front_of.Reads as front-of-reads
-use Rattle.tile.proofs.walk.Reads as walk-reads
 
 -- src/lib.rt:203:9
 front-of-requires : tie.Need-front-of-requires
