@@ -1,5 +1,5 @@
 -- THE THREE DEMANDS HOLD. Each statement stands in full in specs/Demands.antt; here the theorem that answers it is cited. Assumes nothing.
-use mathlib.Core.Path.{_≡_, sym, ap, _∙_}
+use mathlib.Core.Path.{_≡_, refl, sym, ap, _∙_}
 use mathlib.Core.Bool.{Bool}
 use mathlib.Core.List.{List}
 use Prim.Native.Nat.{ℕ, _*_}
@@ -140,7 +140,8 @@ module _ (z : Sizes) (cnxRead : Bool) (f : Files) (lengths marks : List ℕ) (c 
         counts-rings = rings;
         counts-nodes = directory.counts-nodes f lengths c h;
         loads = load-answered;
-        columns = held-said z cnxRead f lengths c load-answered;
+        columns = λ sn en rf lf re le rp fi se fe.
+            held-said z cnxRead f lengths c load-answered (Accepted c) refl sn en rf lf re le rp fi se fe _ _ _ _ _ _ _ _ _ _ refl refl refl refl refl refl refl refl refl refl;
         walks = w;
         steps = ap (sum (ringSteps (tileSaid f))) (sym rings) ∙ w .adds-up ∙ ap (λ (n : ℕ). 2 * n) edges;
       }

@@ -124,21 +124,22 @@ module _ (z : Sizes) (k : Bool) (f : Files) (lengths : List ℕ) (c : Counts) wh
     count-rows Rng = ap (λ (x : Counts). x .rings) counted
     count-rows Cnd = ap (λ (x : Counts). x .nodes) counted
 
-    -- the front of a loaded column
-    pub front-said : (n : TableName) (i : ℕ) (d : List ℕ) → take (countOf c n) (columnAfter (Accepted c) f n i d) ≡ column f n i
-    front-said n i d =
+    -- the front of a column as the load leaves it
+    front-said : (r : Outcome) → r ≡ Accepted c → (n : TableName) (i : ℕ) (d d′ : List ℕ) → d′ ≡ columnAfter r f n i d → take (countOf c n) d′ ≡ column f n i
+    front-said r e n i d d′ h =
         let rows = tableIn (tablesOf f mostRows) n .rows in
-        take-at (listed (cellsOf f mostRows n i) rows) (drop rows d) (countOf c n) (length-listed (cellsOf f mostRows n i) rows ∙ sym (count-rows n))
+        ap (take (countOf c n)) (h ∙ ap (λ (o : Outcome). columnAfter o f n i d) e)
+        ∙ take-at (listed (cellsOf f mostRows n i) rows) (drop rows d) (countOf c n) (length-listed (cellsOf f mostRows n i) rows ∙ sym (count-rows n))
 
     -- THE TILE AT THE FRONT of the ten columns is the one that the files say
-    pub held-said : (sn en rf lf re le rp fi se fe : List ℕ)
-        → held c (columnAfter (Accepted c) f Edg 1 sn) (columnAfter (Accepted c) f Edg 2 en) (columnAfter (Accepted c) f Edg 3 rf)
-        (columnAfter (Accepted c) f Edg 4 lf) (columnAfter (Accepted c) f Edg 5 re) (columnAfter (Accepted c) f Edg 6 le)
-        (columnAfter (Accepted c) f Fac 7 rp) (columnAfter (Accepted c) f Rng 8 fi) (columnAfter (Accepted c) f Rng 9 se) (columnAfter (Accepted c) f Cnd 10 fe)
-        ≡ tileSaid f
-    held-said sn en rf lf re le rp fi se fe =
-        tile-is f _ _ _ _ _ _ _ _ _ _ (front-said Edg 1 sn) (front-said Edg 2 en) (front-said Edg 3 rf) (front-said Edg 4 lf) (front-said Edg 5 re)
-        (front-said Edg 6 le) (front-said Fac 7 rp) (front-said Rng 8 fi) (front-said Rng 9 se) (front-said Cnd 10 fe)
+    pub held-said : (r : Outcome) → r ≡ Accepted c → (sn en rf lf re le rp fi se fe sn′ en′ rf′ lf′ re′ le′ rp′ fi′ se′ fe′ : List ℕ) → sn′ ≡ columnAfter r f Edg 1 sn → en′ ≡ columnAfter r f Edg 2 en
+        → rf′ ≡ columnAfter r f Edg 3 rf → lf′ ≡ columnAfter r f Edg 4 lf → re′ ≡ columnAfter r f Edg 5 re → le′ ≡ columnAfter r f Edg 6 le
+        → rp′ ≡ columnAfter r f Fac 7 rp → fi′ ≡ columnAfter r f Rng 8 fi → se′ ≡ columnAfter r f Rng 9 se → fe′ ≡ columnAfter r f Cnd 10 fe
+        → held c sn′ en′ rf′ lf′ re′ le′ rp′ fi′ se′ fe′ ≡ tileSaid f
+    held-said r e sn en rf lf re le rp fi se fe sn′ en′ rf′ lf′ re′ le′ rp′ fi′ se′ fe′ a b d g h i j k l m =
+        tile-is f _ _ _ _ _ _ _ _ _ _ (front-said r e Edg 1 sn sn′ a) (front-said r e Edg 2 en en′ b) (front-said r e Edg 3 rf rf′ d) (front-said r e Edg 4 lf lf′ g)
+        (front-said r e Edg 5 re re′ h) (front-said r e Edg 6 le le′ i) (front-said r e Fac 7 rp rp′ j) (front-said r e Rng 8 fi fi′ k)
+        (front-said r e Rng 9 se se′ l) (front-said r e Cnd 10 fe fe′ m)
 
     -- the check's answer on that tile is the directory's
     pub outcome-checked : (space : ℕ) (t : Tile) (o : Outcome) → t ≡ tileSaid f → o ≡ checkedAs c t space → o ≡ outcomeOf z k f lengths space

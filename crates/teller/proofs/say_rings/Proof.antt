@@ -4,13 +4,6 @@ use Prim.Native.Nat.{_≤_, _-_}
 use borrow.Author.Needs.{needs}
 use Rattle.teller.proofs.say_rings.Statement.{statement}
 use Rattle.teller.proofs.say_rings.Tie as tie
-use Rattle.teller.proofs.say_rings.Reads as reads
-use Rattle.teller.proofs.say_rings.Lts as lts
-use Rattle.directory.proofs.walk_ring.Reads as walk-ring-reads
-use Rattle.side.proofs.row.Reads as row-reads
-use Rattle.teller.proofs.add.Reads as add-reads
-use Rattle.teller.proofs.say_ring.Reads as say-ring-reads
-use Rattle.teller.proofs.steps_of.Reads as steps-of-reads
 
 abbrev Inv-loop : tie.InvT-loop
 Inv-loop counts start-node end-node right-face left-face right-edge left-edge ring-ptr fac-id start-edge first-edge sides₀ rings all₀ i₀ sides all i =
