@@ -1,11 +1,11 @@
 -- What stands at a place of a text: `drop p s` is the text from the place p on. Assumes nothing.
 use mathlib.Core.Path.{_≡_, sym, ap, _∙_}
 use mathlib.Core.List.{List, [], _∷_, _++_}
-use Prim.Native.Nat.{ℕ, zero, suc, _+_, _-_, _<_}
+use Prim.Native.Nat.{ℕ, zero, suc, _+_, _-_, _≤_, _<_}
 use native.Mathlib.Omega.{arith}
 use native.Mathlib.Nat.{add-zero, sub-zero, zero-sub, suc-sub-suc}
-use lib.ListN.{length, getD, take, drop, length-append, length-drop}
-use lib.Seq.{take-nil, drop-nil, drop-drop, drop-append-seam, take-append-seam, getD-drop}
+use lib.ListN.{length, getD, take, drop, length-append, length-drop, drop-of-length-le}
+use lib.Seq.{take-all, take-nil, drop-nil, drop-drop, drop-append-seam, take-append-seam, getD-drop}
 
 module _ (s : List ℕ) (p : ℕ) where
   -- a text with a byte stands inside
@@ -35,3 +35,14 @@ drop-take zero m s = rw (sub-zero m)
 drop-take (suc n) zero s = rw (zero-sub (suc n)) (drop-nil (suc n))
 drop-take (suc n) (suc m) [] = rw (suc-sub-suc m n) (sym (take-nil (m - n)))
 drop-take (suc n) (suc m) (x ∷ s) = rw (suc-sub-suc m n) (drop-take n m s)
+
+-- ---- the part of n bytes from a place on, cut where the text ends
+module _ (s : List ℕ) (p n : ℕ) where
+  pub part-beyond : length s ≤ p → [] ≡ take n (drop p s)
+  part-beyond h = rw (drop-of-length-le s {i = p} h) (sym (take-nil n))
+
+  pub part-cut : length s - p ≤ n → take (length s - p) (drop p s) ≡ take n (drop p s)
+  part-cut h = take-all (length s - p) (drop p s) (rw (length-drop p s) (omega arith)) ∙ sym (take-all n (drop p s) (rw (length-drop p s) h))
+
+  pub part-whole : take (p + n - p) (drop p s) ≡ take n (drop p s)
+  part-whole = let q : p + n - p ≡ n = omega arith in rw q

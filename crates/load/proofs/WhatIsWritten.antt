@@ -31,11 +31,12 @@ use Rattle.table.specs.Words.{layoutOf, Opens, RowRight, SameRow}
 use Rattle.table.proofs.OpenedExactly.{opened-table}
 use Rattle.table.proofs.RowExactly.{inside-file}
 use Rattle.table.proofs.ValueOfRow.{value-of-row}
+use Rattle.cell.specs.Numbers.{natural, internalId, numberIn}
 use Rattle.load.specs.declared.TableName.{TableName}
 use Rattle.load.specs.declared.Counts.{Counts}
 use Rattle.load.specs.declared.Loaded.the-variants.{Tile}
 use Rattle.load.specs.Sources.{Files, fileOf, indexOf, tableIn, tableOf, tablesOf, nameAt, tableAt, atPlace}
-use Rattle.load.specs.Cells.{natural, internalId, numberIn, cellIn, cellOf}
+use Rattle.load.specs.Cells.{cellIn, cellOf}
 use Rattle.load.specs.Load.{columnsOf, loadOf, cellsOf, columnLeft}
 use Rattle.load.specs.Words.{loaded, OpensWith, layoutIn, countOf, Loads}
 use Rattle.load.proofs.LoadedExactly.{opened-as, place-found, loaded-exactly}

@@ -1,94 +1,97 @@
-// The numbers of a tile's columns, read from rows that are judged already, and written.
-use field::FieldType;
+// The numbers of a tile's columns, read from rows that are judged already, and written. What a row needs of the layout is taken once for
+// all rows, as plain numbers, so that a row costs its own bytes and no copy of the layout.
 use header::Layout;
 use number::Order;
 use table::Table;
-use triplet::Triplet;
 ghost use mathlib.Core.Path.{_≡_};
 ghost use mathlib.Core.Bool.{false};
-ghost use Prim.Native.Nat.{_-_, _≤_, _<_};
+ghost use Prim.Native.Nat.{_≤_, _<_};
 ghost use lib.ListN.{length};
 ghost use Rattle.laws.specs.Buffer.{front};
 ghost use Rattle.header.specs.Judge.{mostColumns};
 ghost use Rattle.table.specs.Opening.{mostRows};
-ghost use Rattle.table.specs.Rows.{outside, columnAt, noSuchColumn, slotOf, keptFor};
+ghost use Rattle.table.specs.Rows.{noSuchColumn, slotOf, keptFor};
 ghost use Rattle.load.specs.Sources.{atPlace};
-ghost use Rattle.load.specs.Cells.{natural, internalId, numberIn, cellIn, edgeCells, cellOf, slotsOf, EdgeColumns, SixThere};
+ghost use Rattle.load.specs.Cells.{cellOf, EdgeColumns, SixThere};
+ghost use Rattle.load.specs.CellPlans.{slotsOf, slotFor, lettersOf, offsetsOf, walkedCells, fixedCells, edgeCells, columnCell};
 ghost use Rattle.load.specs.Load.{RowsJudged};
 
-// The patterns from here on are the negative numbers and null.
-const NEGATIVE: u32 = 0x80000000;
+// An edge's row has six of the ten columns.
+const SIX: usize = 6;
 
-// Null and negative numbers are 0.
-fn natural_of(bits: u32) -> u32
-    ensures { λ r. ⌜ r ≡ natural bits ⌝ }
+// ---- one column
+
+// The slot of a walk that looks for one column.
+const ONLY_SLOT: usize = 1;
+
+fn slot_for(column: usize) -> [usize; 64]
+    requires { ⌜ (0 < column) × (column ≤ mostColumns) ⌝ }
+    ensures { λ r. ⌜ r ≡ slotFor column ⌝ }
 {
-    if bits < NEGATIVE { bits } else { 0 }
+    let mut slots = [0usize; 64];
+    slots[column - 1] = ONLY_SLOT;
+    slots
 }
 
-// "From K the internal id is taken"
-fn internal_id(read: Triplet) -> u32
-    ensures { λ r. ⌜ r ≡ internalId read ⌝ }
+// The number of one column in a row: found by a walk past the columns before it, or by its offset.
+fn column_cell(
+    file: &[u8],
+    plan: &[u64; 64],
+    slots: &[usize; 64],
+    column: usize,
+    letter: u8,
+    offset: usize,
+    order: Order,
+    width: u32,
+    start: usize,
+    end: usize,
+) -> u32
+    ensures { λ r. ⌜ r ≡ columnCell order (now (file .entry)) (now (plan .entry)) (now (slots .entry)) column letter offset width start end ⌝ }
 {
-    match read {
-        Triplet::Is(ids, _) => ids.id,
-        Triplet::Refused(_) => 0,
+    if width == 0 {
+        let at = table::rows::find_planned(file, plan, slots, column, order, start, end);
+        return cell::number_by(file, letter, at[ONLY_SLOT], end, order);
     }
+    cell::number_by(file, letter, table::place_within(start, end, offset), end, order)
 }
 
-// The bytes from a place to the row's end.
-fn bytes_left(place: usize, end: usize) -> usize
-    ensures { λ r. ⌜ r ≡ end - place ⌝ }
+// One column of a table.
+pub(crate) fn write_column(file: &[u8], index: &[u8], table: Table, column: usize, out: &mut [u32])
+    requires { ⌜ table .rows ≤ mostRows ⌝ }
+    requires { ⌜ RowsJudged (now file) (now index) table ⌝ }
+    requires { ⌜ noSuchColumn (table .layout) column ≡ false ⌝ }
+    requires { ⌜ table .rows ≤ length (now out) ⌝ }
+    ensures { λ _. ⌜ now (out .exit) ≡ front (cellOf (now (file .entry)) (now (index .entry)) (table .layout) column) (table .rows) (now (out .entry)) ⌝ }
 {
-    if end < place {
-        return 0;
-    }
-    end - place
-}
-
-// The number of an I or K field that starts at a place, in a row that ends at `end`.
-fn number_in(file: &[u8], kind: FieldType, place: usize, end: usize, order: Order) -> u32
-    ensures { λ r. ⌜ r ≡ numberIn order (now (file .entry)) kind place end ⌝ }
-{
-    if kind.is_integer() {
-        return natural_of(number::read4(file, place, order));
-    }
-    if kind.is_triplet() {
-        return internal_id(triplet::read(table::part(file, place, bytes_left(place, end)), order));
-    }
-    0
-}
-
-// The number of a column that starts at a place.
-fn cell_at(file: &[u8], layout: Layout, column: usize, place: usize, end: usize) -> u32
-    requires { ⌜ noSuchColumn layout column ≡ false ⌝ }
-    ensures { λ r. ⌜ r ≡ numberIn (layout .order) (now (file .entry)) (columnAt layout column .kind) place end ⌝ }
-{
+    let layout = table.layout;
+    let rows = table.rows;
+    let order = layout.order;
+    let first = layout.start;
+    let width = layout.width;
     let c = layout.cols[column - 1];
     let kind = c.kind;
-    let order = layout.order;
-    number_in(file, kind, place, end, order)
-}
-
-// The number of one column in a row.
-fn cell(file: &[u8], layout: Layout, start: usize, end: usize, column: usize) -> u32
-    requires { ⌜ noSuchColumn layout column ≡ false ⌝ }
-    requires { ⌜ noSuchColumn layout (layout .id) ≡ false ⌝ }
-    requires { ⌜ outside (now file) start end ≡ false ⌝ }
-    ensures { λ r. ⌜ r ≡ cellIn (now (file .entry)) layout start end column ⌝ }
-{
-    let place = table::column_place(file, layout, start, end, column);
-    cell_at(file, layout, column, place, end)
+    let letter = kind.letter();
+    let offset = c.offset as usize;
+    let plan = table::rows::plan_of(layout);
+    let slots = slot_for(column);
+    let mut start = first as usize;
+    let mut i: usize = 0;
+    while i < rows {
+        let end = table::rows::bound_by(index, order, first, width, i + 1);
+        out[i] = column_cell(file, &plan, &slots, column, letter, offset, order, width, start, end);
+        start = end;
+        i += 1;
+    }
 }
 
 // ---- the six columns of an edge, by one walk over its row
 
 // A slot for each of the six columns.
-fn edge_slots(columns: [usize; 10]) -> [u8; 64]
+fn edge_slots(columns: [usize; 10]) -> [usize; 64]
     requires { ⌜ SixThere columns ⌝ }
     ensures { λ r. ⌜ r ≡ slotsOf columns ⌝ }
 {
-    let mut slots = [0u8; 64];
+    let mut slots = [0usize; 64];
     slots[columns[0] - 1] = 1;
     slots[columns[1] - 1] = 2;
     slots[columns[2] - 1] = 3;
@@ -98,56 +101,112 @@ fn edge_slots(columns: [usize; 10]) -> [u8; 64]
     slots
 }
 
-// The place that the walk kept for a column.
-fn kept_place(at: [usize; 8], slots: [u8; 64], column: usize) -> usize
-    requires { ⌜ (0 < column) × (column ≤ mostColumns) × (slotOf slots column < 8) ⌝ }
-    ensures { λ r. ⌜ r ≡ keptFor at slots column ⌝ }
+// The letters of the six columns' types.
+fn edge_letters(layout: Layout, columns: [usize; 10]) -> [u8; 6]
+    requires { ⌜ SixThere columns ⌝ }
+    ensures { λ r. ⌜ r ≡ lettersOf layout columns ⌝ }
 {
-    at[slots[column - 1] as usize]
+    let mut letters = [0u8; 6];
+    let mut k: usize = 0;
+    while k < SIX {
+        let c = layout.cols[columns[k] - 1];
+        let kind = c.kind;
+        letters[k] = kind.letter();
+        k += 1;
+    }
+    letters
+}
+
+// Where the six columns start in rows of one width.
+fn edge_offsets(layout: Layout, columns: [usize; 10]) -> [usize; 6]
+    requires { ⌜ SixThere columns ⌝ }
+    ensures { λ r. ⌜ r ≡ offsetsOf layout columns ⌝ }
+{
+    let mut offsets = [0usize; 6];
+    let mut k: usize = 0;
+    while k < SIX {
+        let c = layout.cols[columns[k] - 1];
+        offsets[k] = c.offset as usize;
+        k += 1;
+    }
+    offsets
+}
+
+// The place that the walk kept for a column.
+fn kept_place(at: &[usize; 8], slots: &[usize; 64], column: usize) -> usize
+    requires { ⌜ (0 < column) × (column ≤ mostColumns) × (slotOf (now slots) column < 8) ⌝ }
+    ensures { λ r. ⌜ r ≡ keptFor (now (at .entry)) (now (slots .entry)) column ⌝ }
+{
+    at[slots[column - 1]]
 }
 
 // The six cells of a row that must be walked.
-fn walked_cells(file: &[u8], layout: Layout, start: usize, end: usize, columns: [usize; 10], slots: [u8; 64]) -> [u32; 6]
-    requires { ⌜ layout .width ≡ 0 ⌝ }
-    requires { ⌜ EdgeColumns layout columns ⌝ }
-    requires { ⌜ outside (now file) start end ≡ false ⌝ }
-    requires { ⌜ slots ≡ slotsOf columns ⌝ }
-    ensures { λ r. ⌜ r ≡ edgeCells (now (file .entry)) layout start end columns ⌝ }
+fn walked_cells(
+    file: &[u8],
+    plan: &[u64; 64],
+    slots: &[usize; 64],
+    letters: &[u8; 6],
+    columns: &[usize; 10],
+    n: usize,
+    order: Order,
+    start: usize,
+    end: usize,
+) -> [u32; 6]
+    requires { ⌜ SixThere (now columns) ⌝ }
+    requires { ⌜ now slots ≡ slotsOf (now columns) ⌝ }
+    ensures { λ r. ⌜ r ≡ walkedCells order (now (file .entry)) (now (plan .entry)) (now (slots .entry)) (now (letters .entry)) (now (columns .entry)) n start end ⌝ }
 {
-    let places = table::find_places(file, layout, start, end, slots);
-    let at = places.at;
-    [
-        cell_at(file, layout, columns[0], kept_place(at, slots, columns[0]), end),
-        cell_at(file, layout, columns[1], kept_place(at, slots, columns[1]), end),
-        cell_at(file, layout, columns[2], kept_place(at, slots, columns[2]), end),
-        cell_at(file, layout, columns[3], kept_place(at, slots, columns[3]), end),
-        cell_at(file, layout, columns[4], kept_place(at, slots, columns[4]), end),
-        cell_at(file, layout, columns[5], kept_place(at, slots, columns[5]), end),
-    ]
-}
-
-// The six cells of a row: nothing is walked where all rows have one width.
-fn edge_cells(file: &[u8], layout: Layout, start: usize, end: usize, columns: [usize; 10], slots: [u8; 64]) -> [u32; 6]
-    requires { ⌜ EdgeColumns layout columns ⌝ }
-    requires { ⌜ noSuchColumn layout (layout .id) ≡ false ⌝ }
-    requires { ⌜ outside (now file) start end ≡ false ⌝ }
-    requires { ⌜ slots ≡ slotsOf columns ⌝ }
-    ensures { λ r. ⌜ r ≡ edgeCells (now (file .entry)) layout start end columns ⌝ }
-{
-    if layout.width == 0 {
-        return walked_cells(file, layout, start, end, columns, slots);
+    let at = table::rows::find_planned(file, plan, slots, n, order, start, end);
+    let mut cells = [0u32; 6];
+    let mut k: usize = 0;
+    while k < SIX {
+        let place = kept_place(&at, slots, columns[k]);
+        cells[k] = cell::number_by(file, letters[k], place, end, order);
+        k += 1;
     }
-    [
-        cell(file, layout, start, end, columns[0]),
-        cell(file, layout, start, end, columns[1]),
-        cell(file, layout, start, end, columns[2]),
-        cell(file, layout, start, end, columns[3]),
-        cell(file, layout, start, end, columns[4]),
-        cell(file, layout, start, end, columns[5]),
-    ]
+    cells
 }
 
-// ---- written
+// The six cells of a row of fixed width: nothing is walked.
+fn fixed_cells(file: &[u8], letters: &[u8; 6], offsets: &[usize; 6], order: Order, start: usize, end: usize) -> [u32; 6]
+    ensures { λ r. ⌜ r ≡ fixedCells order (now (file .entry)) (now (letters .entry)) (now (offsets .entry)) start end ⌝ }
+{
+    let mut cells = [0u32; 6];
+    let mut k: usize = 0;
+    while k < SIX {
+        let place = table::place_within(start, end, offsets[k]);
+        cells[k] = cell::number_by(file, letters[k], place, end, order);
+        k += 1;
+    }
+    cells
+}
+
+// The six cells of a row.
+fn edge_cells(
+    file: &[u8],
+    plan: &[u64; 64],
+    slots: &[usize; 64],
+    letters: &[u8; 6],
+    offsets: &[usize; 6],
+    columns: &[usize; 10],
+    n: usize,
+    order: Order,
+    width: u32,
+    start: usize,
+    end: usize,
+) -> [u32; 6]
+    requires { ⌜ SixThere (now columns) ⌝ }
+    requires { ⌜ now slots ≡ slotsOf (now columns) ⌝ }
+    ensures {
+        λ r. ⌜ r ≡ edgeCells order (now (file .entry)) (now (plan .entry)) (now (slots .entry)) (now (letters .entry)) (now (offsets .entry))
+        (now (columns .entry)) n width start end ⌝
+    }
+{
+    if width == 0 {
+        return walked_cells(file, plan, slots, letters, columns, n, order, start, end);
+    }
+    fixed_cells(file, letters, offsets, order, start, end)
+}
 
 // The six columns of edges, row after row.
 pub(crate) fn write_edges(
@@ -175,38 +234,25 @@ pub(crate) fn write_edges(
 {
     let layout = table.layout;
     let rows = table.rows;
+    let order = layout.order;
+    let first = layout.start;
+    let width = layout.width;
+    let n = layout.columns;
+    let plan = table::rows::plan_of(layout);
     let slots = edge_slots(columns);
-    let mut start = table::row_bound(index, layout, 0);
+    let letters = edge_letters(layout, columns);
+    let offsets = edge_offsets(layout, columns);
+    let mut start = first as usize;
     let mut i: usize = 0;
     while i < rows {
-        let end = table::row_bound(index, layout, i + 1);
-        let cells = edge_cells(file, layout, start, end, columns, slots);
+        let end = table::rows::bound_by(index, order, first, width, i + 1);
+        let cells = edge_cells(file, &plan, &slots, &letters, &offsets, &columns, n, order, width, start, end);
         start_node[i] = cells[0];
         end_node[i] = cells[1];
         right_face[i] = cells[2];
         left_face[i] = cells[3];
         right_edge[i] = cells[4];
         left_edge[i] = cells[5];
-        start = end;
-        i += 1;
-    }
-}
-
-// One column of a table.
-pub(crate) fn write_column(file: &[u8], index: &[u8], table: Table, column: usize, out: &mut [u32])
-    requires { ⌜ table .rows ≤ mostRows ⌝ }
-    requires { ⌜ RowsJudged (now file) (now index) table ⌝ }
-    requires { ⌜ noSuchColumn (table .layout) column ≡ false ⌝ }
-    requires { ⌜ table .rows ≤ length (now out) ⌝ }
-    ensures { λ _. ⌜ now (out .exit) ≡ front (cellOf (now (file .entry)) (now (index .entry)) (table .layout) column) (table .rows) (now (out .entry)) ⌝ }
-{
-    let layout = table.layout;
-    let rows = table.rows;
-    let mut start = table::row_bound(index, layout, 0);
-    let mut i: usize = 0;
-    while i < rows {
-        let end = table::row_bound(index, layout, i + 1);
-        out[i] = cell(file, layout, start, end, column);
         start = end;
         i += 1;
     }

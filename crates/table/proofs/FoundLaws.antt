@@ -1,8 +1,8 @@
 -- A row's fields found by one walk, or by offsets. Assumes nothing.
-use mathlib.Core.Path.{_≡_, refl, sym, ap, _∙_}
-use mathlib.Core.Bool.{Bool, true, false}
+use mathlib.Core.Path.{_≡_, ap, _∙_}
+use mathlib.Core.Bool.{false}
 use mathlib.Core.List.{List}
-use Prim.Native.Nat.{ℕ, min, _≤_, _<_}
+use Prim.Native.Nat.{ℕ, _≤_, _<_}
 use native.Mathlib.Omega.{arith}
 use borrow.Author.Tests.{eq-eqb, ne-eqb}
 use Rattle.refusal.specs.declared.Refusal.{Refusal}
@@ -10,7 +10,7 @@ use Rattle.header.specs.declared.Layout.{Layout}
 use Rattle.header.specs.Judge.{mostColumns}
 use Rattle.table.specs.declared.Places.{Places}
 use Rattle.table.specs.declared.Found.{Found}
-use Rattle.table.specs.Rows.{columnsOf, noSuchColumn, outside, placeFound, reach, placeOfColumn, walked, slotsFor, keptFor, idRefusal, usedUp, offsetPlace, columnPlace, fieldsRefusal, foundOf}
+use Rattle.table.specs.Rows.{columnsOf, noSuchColumn, reach, placeOfColumn, walked, slotsFor, keptFor, idRefusal, usedUp, offsetPlace, columnPlace, fieldsRefusal, foundOf}
 use Rattle.table.proofs.RowLaws.{such}
 use Rattle.table.proofs.SlotLaws.{kept-for, slot-alone-k, slot-alone-id}
 
@@ -27,7 +27,7 @@ module _ (s : List ℕ) (l : Layout) (start end i k : ℕ) (there-id : noSuchCol
         let h = such (columnsOf l) k there in
         let d = column-there l (l .id) there-id in
         let alone = slot-alone-k (l .id) k (d .0) (d .1) (h .0) (omega (arith, h .1)) in
-        rw (e, a, b) (kept-for s l start end (slotsFor (l .id) k) k (columnsOf l) (h .0) (h .1) alone)
+        rw (e, a, b) (kept-for (reach s l start end) (slotsFor (l .id) k) k (columnsOf l) (h .0) (h .1) alone)
 
     kept-id : keptFor (w .at) slots (l .id) ≡ placeOfColumn s l start end (l .id)
     unfolding walked
@@ -35,7 +35,7 @@ module _ (s : List ℕ) (l : Layout) (start end i k : ℕ) (there-id : noSuchCol
         let h = such (columnsOf l) (l .id) there-id in
         let d = column-there l k there in
         let alone = slot-alone-id (l .id) k (h .0) (omega (arith, h .1)) (d .0) (d .1) in
-        rw (e, a, b) (kept-for s l start end (slotsFor (l .id) k) (l .id) (columnsOf l) (h .0) (h .1) alone)
+        rw (e, a, b) (kept-for (reach s l start end) (slotsFor (l .id) k) (l .id) (columnsOf l) (h .0) (h .1) alone)
 
     pub by-walk : (p q : ℕ) (x y : Refusal) → l .width ≡ 0 → p ≡ keptFor (w .at) slots (l .id) → q ≡ keptFor (w .at) slots k → x ≡ idRefusal s l p i
         → y ≡ usedUp (w .reach) end i x → (r : Found) → r .refusal ≡ y → r .place ≡ q → r ≡ foundOf s l start end i k
@@ -52,9 +52,3 @@ module _ (s : List ℕ) (l : Layout) (start end i k : ℕ) (there-id : noSuchCol
   by-offset p q x z f g u r m n =
       let t = ne-eqb (l .width) 0 z in
       rw t (λ h. record { refusal = (m ∙ u ∙ ap (λ (p : ℕ). idRefusal s l p i) f) h; place = (n ∙ g) h })
-
--- where fields can be looked for, the column is found at its place
-pub place-found : (s : List ℕ) (l : Layout) (start end k : ℕ) → outside s start end ≡ false → noSuchColumn l (l .id) ≡ false → noSuchColumn l k ≡ false
-    → columnPlace s l start end k ≡ placeFound s l start end k
-unfolding placeFound
-place-found s l start end k a b c = simp (a, b, c)

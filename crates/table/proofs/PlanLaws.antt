@@ -1,5 +1,6 @@
--- A row judged by plain numbers is judged as its layout says; and a loop that judges the rows so answers for the lowest. Assumes nothing.
-use mathlib.Core.Path.{_≡_, refl, ap, _∙_}
+-- A row judged by plain numbers is judged as its layout says, and its columns are found where they start by the layout; and a loop that
+-- judges the rows so answers for the lowest. Assumes nothing.
+use mathlib.Core.Path.{_≡_, refl, sym, ap, _∙_}
 use mathlib.Core.Logic.{by-cases}
 use mathlib.Core.Bool.{Bool, true, false, cond}
 use mathlib.Core.List.{List}
@@ -25,11 +26,12 @@ use Rattle.header.specs.Judge.{mostColumns}
 use Rattle.table.specs.declared.Reach.{Reach}
 use Rattle.table.specs.declared.Reach.the-variants.{At}
 use Rattle.table.specs.Opening.{endAt}
-use Rattle.table.specs.Rows.{columnsOf, columnAt, noSuchColumn, boundOf, outside, plainEnd, starEnd, tripletEnd, fieldEnd, onward, reach, placeOf, columnPlace, usedUp, idJudged, fieldsRefusal, rowRefusal, rowJudged}
-use Rattle.table.specs.Plans.{idOffset, fixedBound, fixedRow, entryEnd, tripletCode, starCode, fixedCode, codeOf, codeAt, planOf, codeEnd, planReach, plannedFields, plannedRow}
+use Rattle.table.specs.Rows.{columnsOf, columnAt, noSuchColumn, boundOf, outside, plainEnd, starEnd, tripletEnd, fieldEnd, onward, reach, placeOf, keep, keptBy, keptFor, columnPlace, usedUp, idJudged, fieldsRefusal, rowRefusal, rowJudged}
+use Rattle.table.specs.Plans.{idOffset, fixedBound, fixedRow, entryEnd, walkedBound, boundBy, tripletCode, starCode, fixedCode, codeOf, codeAt, planOf, codeEnd, planReach, plannedFields, plannedRow, plannedPlaces}
 use Rattle.table.proofs.FieldLaws.{plain-within, star-within, triplet-within}
-use Rattle.table.proofs.WalkLaws.{stays-so}
+use Rattle.table.proofs.WalkLaws.{stays-so, kept-stays}
 use Rattle.table.proofs.RowLaws.{such, judged-early, judged-late}
+use Rattle.table.proofs.SlotLaws.{Alone, kept-for}
 
 -- ---- the codes
 
@@ -92,6 +94,20 @@ module _ (s : List ℕ) (l : Layout) (start end : ℕ) where
       ap (λ (x : Reach). onward x (λ p. codeEnd (l .order) s end (getD (planOf l) n 0) p)) (plan-reach n (omega arith))
       ∙ ap (onward (reach s l start end n)) (λ t p. e p t)
 
+  -- THE PLACE of a column that alone has its slot, where the row must be walked
+  pub planned-place : (slots : List ℕ) (n c : ℕ) → l .width ≡ 0 → outside s start end ≡ false → 0 < c → c ≤ n → c ≤ mostColumns → Alone slots c
+      → keptFor (plannedPlaces (l .order) s (planOf l) start end slots n) slots c ≡ columnPlace s l start end c
+  unfolding plannedPlaces columnPlace
+  planned-place slots n c z inside first last few alone =
+      rw (inside, eq-eqb (l .width) 0 z)
+      (kept-for (planReach (l .order) s (planOf l) start end) slots c (min n mostColumns) first (omega arith) alone
+      ∙ ap placeOf (plan-reach (pred c) (omega arith)))
+
+  -- and where all rows have one width
+  pub fixed-place : (c : ℕ) → (l .width ≡ 0 → ⊥) → min (start + columnAt l c .offset) end ≡ columnPlace s l start end c
+  unfolding columnPlace
+  fixed-place c z = rw (ne-eqb (l .width) 0 z)
+
   module _ (i : ℕ) where
     -- the tests before a row's fields, and then its fields
     tested : (q : Refusal) → (noSuchColumn l (l .id) ≡ false → q ≡ fieldsRefusal s l start end i)
@@ -135,6 +151,13 @@ module _ (o : Order) (s plan : List ℕ) (start end : ℕ) where
   -- the next column, from where the last ended
   pub plan-next : (j at : ℕ) (x : Reach) → came j ≡ At at → x ≡ codeEnd o s end (getD plan j 0) at → came (j + 1) ≡ x
   plan-next j at x e f = rw (add-one j, e, f)
+
+  -- the places kept by a walk that stopped at column j + 1 are those of all n columns
+  pub plan-kept : (slots : List ℕ) (x : Reach) → ((f : ℕ → Reach) → onward x f ≡ x) → ((at : List ℕ) (k : ℕ) → keep at slots k x ≡ at) → (j n p : ℕ) (at : List ℕ)
+      → j < n → came j ≡ At p → x ≡ codeEnd o s end (getD plan j 0) p → at ≡ keptBy came slots (j + 1) → at ≡ keptBy came slots n
+  plan-kept slots x h z j n p at a e f g =
+      let so = stays-so came (λ n p. codeEnd o s end (getD plan n 0) p) (λ n. refl) x h (j + 1) (plan-next j p x e f) in
+      g ∙ sym (kept-stays came slots x z (j + 1) so n (omega arith))
 
   module _ (n id i : ℕ) where
     -- where the id column starts, once the walk has come to it
@@ -182,11 +205,6 @@ module _ (o : Order) (s plan : List ℕ) (start end : ℕ) where
 
 -- ---- all rows
 
--- where row k ends by the index, and row k + 1 starts
-abbrev pub walkedBound : Order → List ℕ → ℕ → ℕ → ℕ
-walkedBound o index start zero = start
-walkedBound o index start (suc k) = entryEnd o index (suc k)
-
 -- the rows as the two loops judge them
 abbrev pub fixedAt : Order → List ℕ → Bool → ℕ → ℕ → ℕ → ℕ → Refusal
 fixedAt o s missing offset start width i = fixedRow o s missing offset (fixedBound start width (pred i)) (fixedBound start width i) i
@@ -211,19 +229,34 @@ walked-next o s index plan n id first start end i q a b e =
     ∙ ap (λ (x : ℕ). plannedRow o s plan n id x end (i + 1)) (a ∙ ap (walkedBound o index first) p)
     ∙ ap (λ (x : ℕ). plannedRow o s plan n id (walkedBound o index first (pred (i + 1))) x (i + 1)) (walked-end o index first end i b)
 
+-- row 1 starts where the header says
+pub bound-first : (o : Order) (index : List ℕ) (first width : ℕ) → first ≡ boundBy o index first width 0
+unfolding boundBy
+bound-first o index first width = bool-cases (eqb width 0) (λ t. rw t) (λ t. rw t (omega arith))
+
+-- a row's end by its entry
+pub walked-entry : (o : Order) (index : List ℕ) (first k : ℕ) → (k ≡ 0 → ⊥) → entryEnd o index k ≡ walkedBound o index first k
+walked-entry o index first zero h = absurd (h refl)
+walked-entry o index first (suc k) h = refl
+
 module _ (s index : List ℕ) (l : Layout) where
   bound-fixed : (l .width ≡ 0 → ⊥) → (k : ℕ) → boundOf l index k ≡ fixedBound (l .start) (l .width) k
   unfolding boundOf
   bound-fixed z k = rw (ne-eqb (l .width) 0 z)
 
-  end-entry : (k : ℕ) → endAt l index k ≡ walkedBound (l .order) index (l .start) k
+  pub end-walked : (k : ℕ) → walkedBound (l .order) index (l .start) k ≡ endAt l index k
   unfolding endAt
-  end-entry zero = refl
-  end-entry (suc k) = refl
+  end-walked zero = refl
+  end-walked (suc k) = refl
 
   bound-walked : l .width ≡ 0 → (k : ℕ) → boundOf l index k ≡ walkedBound (l .order) index (l .start) k
   unfolding boundOf
-  bound-walked z k = rw (eq-eqb (l .width) 0 z) (end-entry k)
+  bound-walked z k = rw (eq-eqb (l .width) 0 z) (sym (end-walked k))
+
+  -- THE BOUND by plain numbers
+  pub bound-by : (k : ℕ) → boundBy (l .order) index (l .start) (l .width) k ≡ boundOf l index k
+  unfolding boundBy boundOf
+  bound-by k = bool-cases (eqb (l .width) 0) (λ t. rw t (end-walked k)) (λ t. rw t)
 
   -- THE ROWS OF ONE WIDTH, and those with an index: the lowest that is refused is the same
   pub fixed-rows : (l .width ≡ 0 → ⊥) → (n : ℕ) (missing : Bool) (offset : ℕ) → missing ≡ noSuchColumn l (l .id) → offset ≡ idOffset l

@@ -8,11 +8,10 @@ use native.Mathlib.Decide.{decLe, ℕ-discrete}
 use lib.ListN.{length, getD, set, replicate, length-set}
 use lib.Seq.{getD-set-same, getD-set-other}
 use Rattle.laws.proofs.BufferLaws.{getD-zeros}
-use Rattle.header.specs.declared.Layout.{Layout}
 use Rattle.header.specs.Judge.{mostColumns}
 use Rattle.table.specs.declared.Reach.{Reach}
 use Rattle.table.specs.declared.Reach.the-variants.{At, Short, Cut}
-use Rattle.table.specs.Rows.{reach, placeOf, placeOfColumn, slotOf, keep, placesKept, slotsFor, keptFor}
+use Rattle.table.specs.Rows.{placeOf, slotOf, keep, keptBy, slotsFor, keptFor}
 
 -- column c has a slot that keeps, and no other column has it
 abbrev pub Alone : List ℕ → ℕ → Type 0
@@ -35,35 +34,35 @@ module _ (at slots : List ℕ) (k m : ℕ) where
   length-keep Short = refl
   length-keep (Cut q) = refl
 
-module _ (s : List ℕ) (l : Layout) (start end : ℕ) (slots : List ℕ) where
-  pub length-kept : (n : ℕ) → length (placesKept s l start end slots n) ≡ 8
+module _ (r : ℕ → Reach) (slots : List ℕ) where
+  pub length-kept : (n : ℕ) → length (keptBy r slots n) ≡ 8
   length-kept zero = refl
-  length-kept (suc n) = length-keep (placesKept s l start end slots n) slots (suc n) 0 (reach s l start end n) ∙ length-kept n
+  length-kept (suc n) = length-keep (keptBy r slots n) slots (suc n) 0 (r n) ∙ length-kept n
 
   -- column c alone asks for the slot m
   module _ (c m : ℕ) (own : slotOf slots c ≡ m) (only : (j : ℕ) → 0 < j → slotOf slots j ≡ m → j ≡ c) (small : m < 8) where
     -- before the walk comes to it the slot is empty
-    empty : (n : ℕ) → n < c → getD (placesKept s l start end slots n) m 0 ≡ 0
+    empty : (n : ℕ) → n < c → getD (keptBy r slots n) m 0 ≡ 0
     empty zero h = getD-zeros 8 m
     empty (suc n) h =
-        keep-other (placesKept s l start end slots n) slots (suc n) m (reach s l start end n) (λ e. let q = only (suc n) (omega arith) (sym e) in omega arith)
+        keep-other (keptBy r slots n) slots (suc n) m (r n) (λ e. let q = only (suc n) (omega arith) (sym e) in omega arith)
         ∙ empty n (omega arith)
 
-    filled : (n : ℕ) → 0 < c → c ≤ n → getD (placesKept s l start end slots n) m 0 ≡ placeOfColumn s l start end c
+    filled : (n : ℕ) → 0 < c → c ≤ n → getD (keptBy r slots n) m 0 ≡ placeOf (r (pred c))
     filled zero z h = absurd (omega arith)
     filled (suc n) z h =
         by-cases (decLe c n)
         (λ k.
-        keep-other (placesKept s l start end slots n) slots (suc n) m (reach s l start end n) (λ e. let q = only (suc n) (omega arith) (sym e) in omega arith)
+        keep-other (keptBy r slots n) slots (suc n) m (r n) (λ e. let q = only (suc n) (omega arith) (sym e) in omega arith)
         ∙ filled n z k)
         (λ k.
         let q : c ≡ suc n = omega arith in
-        let i : m < length (placesKept s l start end slots n) = rw (length-kept n) small in
+        let i : m < length (keptBy r slots n) = rw (length-kept n) small in
         rw q
-        (keep-own (placesKept s l start end slots n) slots (suc n) m (reach s l start end n) (rw q at own) i (empty n (omega arith))))
+        (keep-own (keptBy r slots n) slots (suc n) m (r n) (rw q at own) i (empty n (omega arith))))
 
   -- A SLOT THAT COLUMN c ALONE ASKS FOR keeps where column c starts
-  pub kept-for : (c n : ℕ) → 0 < c → c ≤ n → Alone slots c → keptFor (placesKept s l start end slots n) slots c ≡ placeOfColumn s l start end c
+  pub kept-for : (c n : ℕ) → 0 < c → c ≤ n → Alone slots c → keptFor (keptBy r slots n) slots c ≡ placeOf (r (pred c))
   kept-for c n z h alone = filled c (slotOf slots c) refl (alone .1) (alone .0) n z h
 
 -- the slots for the id column and for column k

@@ -13,7 +13,7 @@ use Rattle.table.specs.declared.Reach.{Reach}
 use Rattle.table.specs.declared.Reach.the-variants.{At, Short, Cut}
 use Rattle.table.specs.declared.Places.{Places}
 use Rattle.table.specs.Opening.{needsIndex}
-use Rattle.table.specs.Rows.{fieldEnd, columnAt, onward, reach, placeOf, columnPlace, slotOf, keep, placesKept, walked}
+use Rattle.table.specs.Rows.{fieldEnd, columnAt, onward, reach, placeOf, columnPlace, keep, keptBy, placesKept, walked}
 use Rattle.table.proofs.FieldLaws.{field-within}
 
 -- a walk that goes on from where it came, and that stopped, stays so
@@ -24,6 +24,21 @@ module _ (r : ℕ → Reach) (g : ℕ → ℕ → Reach) (step : (n : ℕ) → r
       by-cases (decLe j n)
       (λ c. step n ∙ ap (λ (y : Reach). onward y (g n)) (stays-so x h j e n c) ∙ h (g n))
       (λ c. let q : suc n ≡ j = omega arith in ap r q ∙ e)
+
+-- the places that a walk keeps
+module _ (r : ℕ → Reach) (slots : List ℕ) where
+  -- that of the next column is kept
+  pub kept-next : (j p : ℕ) (at at′ : List ℕ) → r j ≡ At p → at ≡ keptBy r slots j → at′ ≡ set at (getD slots j 0) p → at′ ≡ keptBy r slots (j + 1)
+  kept-next j p at at′ e f g = g ∙ rw (add-one j, e, f)
+
+  -- nothing more is kept where the walk stopped
+  pub kept-stays : (x : Reach) → ((at : List ℕ) (k : ℕ) → keep at slots k x ≡ at) → (j : ℕ) → ((k : ℕ) → j ≤ k → r k ≡ x)
+      → (n : ℕ) → j ≤ n → keptBy r slots n ≡ keptBy r slots j
+  kept-stays x z j so zero h = let q : 0 ≡ j = omega arith in ap (λ (k : ℕ). keptBy r slots k) q
+  kept-stays x z j so (suc n) h =
+      by-cases (decLe j n)
+      (λ c. rw (so n c) (z (keptBy r slots n) (suc n) ∙ kept-stays x z j so n c))
+      (λ c. let q : suc n ≡ j = omega arith in ap (λ (k : ℕ). keptBy r slots k) q)
 
 module _ (s : List ℕ) (l : Layout) (start end : ℕ) where
   -- the next column, from where the last ended
@@ -60,20 +75,6 @@ module _ (s : List ℕ) (l : Layout) (start end : ℕ) where
       (λ t. rw t (omega arith))
 
   module _ (slots : List ℕ) where
-    -- the place of the next column is kept
-    pub kept-next : (j p : ℕ) (at at′ : List ℕ) → reach s l start end j ≡ At p → at ≡ placesKept s l start end slots j
-        → at′ ≡ set at (getD slots j 0) p → at′ ≡ placesKept s l start end slots (j + 1)
-    kept-next j p at at′ e f g = g ∙ rw (add-one j, e, f)
-
-    -- nothing more is kept where the walk stopped
-    kept-stays : (x : Reach) → ((f : ℕ → Reach) → onward x f ≡ x) → ((at : List ℕ) (k : ℕ) → keep at slots k x ≡ at) → (j : ℕ) → reach s l start end j ≡ x
-        → (n : ℕ) → j ≤ n → placesKept s l start end slots n ≡ placesKept s l start end slots j
-    kept-stays x h z j e zero k = let q : 0 ≡ j = omega arith in ap (λ (k : ℕ). placesKept s l start end slots k) q
-    kept-stays x h z j e (suc n) k =
-        by-cases (decLe j n)
-        (λ c. rw (stays x h j e n c) (z (placesKept s l start end slots n) (suc n) ∙ kept-stays x h z j e n c))
-        (λ c. let q : suc n ≡ j = omega arith in ap (λ (k : ℕ). placesKept s l start end slots k) q)
-
     -- the answer of a walk that stopped at column j + 1, and of one that went through
     pub stopped : (x : Reach) → ((f : ℕ → Reach) → onward x f ≡ x) → ((at : List ℕ) (k : ℕ) → keep at slots k x ≡ at) → (j n p : ℕ) (at : List ℕ) → j < n
         → reach s l start end j ≡ At p → x ≡ fieldEnd (l .order) s end (columnAt l (suc j)) p → at ≡ placesKept s l start end slots (j + 1)
@@ -83,7 +84,7 @@ module _ (s : List ℕ) (l : Layout) (start end : ℕ) where
         let after : reach s l start end (j + 1) ≡ x = reach-next j p x e f in
         (λ t. record {
           reach = (u ∙ sym (stays x h (j + 1) after n (omega arith))) t;
-          at = (v ∙ g ∙ sym (kept-stays x h z (j + 1) after n (omega arith))) t
+          at = (v ∙ g ∙ sym (kept-stays (reach s l start end) slots x z (j + 1) (stays x h (j + 1) after) n (omega arith))) t
         })
 
     pub through : (n j p : ℕ) (at : List ℕ) → j ≡ n → reach s l start end j ≡ At p → at ≡ placesKept s l start end slots j

@@ -1,4 +1,5 @@
--- A row judged by plain numbers, which are taken from the layout once for all rows. That it is the same judgement is proved in PlanLaws.
+-- A row judged, and its columns found, by plain numbers, which are taken from the layout once for all rows. That it is the same judgement and
+-- that these are the same places is proved in PlanLaws.
 use mathlib.Core.Bool.{Bool, cond}
 use mathlib.Core.List.{List}
 use Prim.Native.Nat.{ℕ, zero, suc, pred, min, _+_, _-_, _*_}
@@ -15,7 +16,7 @@ use Rattle.header.specs.declared.Layout.{Layout}
 use Rattle.header.specs.Judge.{mostColumns}
 use Rattle.table.specs.declared.Reach.{Reach}
 use Rattle.table.specs.declared.Reach.the-variants.{At}
-use Rattle.table.specs.Rows.{columnAt, noSuch, noSuchColumn, outside, plainEnd, starEnd, tripletEnd, onward, placeOf, idJudged, usedUp}
+use Rattle.table.specs.Rows.{columnAt, noSuch, noSuchColumn, outside, plainEnd, starEnd, tripletEnd, onward, placeOf, noPlaces, keptBy, idJudged, usedUp}
 
 -- ---- rows of one width: "Without a `*` or K column all rows have one width"
 
@@ -37,6 +38,15 @@ fixedRow o s missing offset start end i =
 -- "n pairs of offset and length, all four bytes": where row k ends by its entry
 abbrev pub entryEnd : Order → List ℕ → ℕ → ℕ
 entryEnd o index k = number o index (8 * k) 4 + number o index (8 * k + 4) 4
+
+-- where row k ends, and row k + 1 starts
+abbrev pub walkedBound : Order → List ℕ → ℕ → ℕ → ℕ
+walkedBound o index first zero = first
+walkedBound o index first (suc k) = entryEnd o index (suc k)
+
+-- THE BOUND of rows of one width, or of rows with an index, by plain numbers
+unfoldable pub boundBy : Order → List ℕ → ℕ → ℕ → ℕ → ℕ
+boundBy o index first width k = cond (eqb width 0) (walkedBound o index first k) (fixedBound first width k)
 
 -- what a walk needs of a column, as a code: a triplet's; the bytes of an element of a `*` field, none over 24; the bytes of any other
 abbrev pub tripletCode : ℕ
@@ -78,3 +88,8 @@ plannedFields o s plan n id start end i =
 unfoldable pub plannedRow : Order → List ℕ → List ℕ → ℕ → ℕ → ℕ → ℕ → ℕ → Refusal
 plannedRow o s plan n id start end i =
     cond (outside s start end) (refusal 10 i) (cond (noSuch n id) (refusal 9 i) (plannedFields o s plan n id start end i))
+
+-- THE PLACES that a walk past the columns 1..n keeps, of which there are at most 64; none of a row outside the file
+unfoldable pub plannedPlaces : Order → List ℕ → List ℕ → ℕ → ℕ → List ℕ → ℕ → List ℕ
+plannedPlaces o s plan start end slots n =
+    cond (outside s start end) noPlaces (keptBy (planReach o s plan start end) slots (min n mostColumns))

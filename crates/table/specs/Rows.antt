@@ -1,14 +1,13 @@
 -- Rows: where row i lies, its fields one column after the other, and its judgement.
-use mathlib.Core.Bool.{Bool, true, false, cond, not}
-use mathlib.Core.List.{List, [], _∷_}
+use mathlib.Core.Bool.{Bool, true, cond, not}
+use mathlib.Core.List.{List}
 use Prim.Native.Nat.{ℕ, zero, suc, pred, min, _+_, _-_, _*_}
 use lib.Dec.{eqb, ltb, leb}
 use lib.ListN.{length, getD, set, take, drop, replicate}
 use Rattle.refusal.specs.declared.Refusal.{Refusal}
-use Rattle.refusal.specs.Order.{refusal, fine, refusedIf, first, lowestOf}
+use Rattle.refusal.specs.Order.{refusal, refusedIf, first, lowestOf}
 use Rattle.number.specs.declared.Order.{Order}
 use Rattle.number.specs.Bytes.{number}
-use Rattle.field.specs.declared.FieldType.{FieldType}
 use Rattle.field.specs.Fields.{widthOf, isTriplet}
 use Rattle.triplet.specs.declared.Triplet.{Triplet}
 use Rattle.triplet.specs.declared.Triplet.the-variants as triplet
@@ -109,18 +108,17 @@ keep at slots k (At p) = set at (slotOf slots k) p
 keep at slots k Short = at
 keep at slots k (Cut q) = at
 
+-- `r n` says how far a walk came past the columns 1..n
+abbrev pub keptBy : (ℕ → Reach) → List ℕ → ℕ → List ℕ
+keptBy r slots zero = noPlaces
+keptBy r slots (suc n) = keep (keptBy r slots n) slots (suc n) (r n)
+
 abbrev pub placesKept : List ℕ → Layout → ℕ → ℕ → List ℕ → ℕ → List ℕ
-placesKept s l start end slots zero = noPlaces
-placesKept s l start end slots (suc n) = keep (placesKept s l start end slots n) slots (suc n) (reach s l start end n)
+placesKept s l start end slots n = keptBy (reach s l start end) slots n
 
 -- past the columns 1..n, with the places kept
 unfoldable pub walked : List ℕ → Layout → ℕ → ℕ → List ℕ → ℕ → Places
 walked s l start end slots n = record { reach = reach s l start end n; at = placesKept s l start end slots n }
-
--- the whole row; one outside the file is too short for its fields
-unfoldable pub placesOf : List ℕ → Layout → ℕ → ℕ → List ℕ → Places
-placesOf s l start end slots =
-    cond (outside s start end) (record { reach = Short; at = noPlaces }) (walked s l start end slots (columnsOf l))
 
 -- the slots of a walk that looks for the id column and for column k, and the place that it kept for a column
 abbrev pub slotsFor : ℕ → ℕ → List ℕ
@@ -170,11 +168,6 @@ foundOf s l start end i k = record { refusal = fieldsRefusal s l start end i; pl
 -- a row that no fields can be looked for in: it lies outside the file, or its layout, which no header gave, has no id column
 abbrev pub placeRefusal : List ℕ → Layout → ℕ → ℕ → ℕ → Refusal
 placeRefusal s l start end i = cond (outside s start end) (refusal 10 i) (refusedIf (noSuchColumn l (l .id)) 9 i)
-
--- where column k starts in a row; 0 where no fields can be looked for, or there is no such column
-unfoldable pub placeFound : List ℕ → Layout → ℕ → ℕ → ℕ → ℕ
-placeFound s l start end k =
-    cond (outside s start end) 0 (cond (noSuchColumn l (l .id)) 0 (cond (noSuchColumn l k) 0 (columnPlace s l start end k)))
 
 -- THE JUDGEMENT of row i that lies from start to end
 unfoldable pub rowRefusal : List ℕ → Layout → ℕ → ℕ → ℕ → Refusal

@@ -12,8 +12,8 @@ ghost use Rattle.header.specs.Judge.{mostColumns};
 ghost use Rattle.header.specs.Layouts.{blankColumn};
 ghost use Rattle.field.specs.Nulls.{shortHalf, integerHalf, signed};
 ghost use Rattle.table.specs.Opening.{mostRows, endAt};
-ghost use Rattle.table.specs.Rows.{columnsOf, noSuch, noSuchColumn, outside, columnAt, boundOf, plainEnd, starEnd, tripletEnd, fieldEnd, walked, slotsFor, keptFor, placesOf, foundOf, idJudged, usedUp, columnPlace, offsetPlace, fieldsRefusal, placeRefusal, placeFound, rowRefusal, unlessRefused, rowOf};
-ghost use Rattle.table.specs.Plans.{fixedBound, entryEnd};
+ghost use Rattle.table.specs.Rows.{columnsOf, noSuch, noSuchColumn, outside, columnAt, boundOf, plainEnd, starEnd, tripletEnd, fieldEnd, walked, slotsFor, keptFor, foundOf, idJudged, usedUp, columnPlace, offsetPlace, fieldsRefusal, placeRefusal, rowRefusal, unlessRefused, rowOf};
+ghost use Rattle.table.specs.Plans.{fixedBound, entryEnd, walkedBound};
 ghost use Rattle.table.specs.Values.{shortOf, integerOf, floatOf, doubleOf, elementsStart, elementsBytes, tripletOfRead, shown, inRow, valueOf, shownStart, shownBytes, partOf};
 
 use field::FieldType;
@@ -223,17 +223,6 @@ pub fn no_such_column(layout: Layout, column: usize) -> bool
     no_such(count_columns(layout), column)
 }
 
-// One walk over a whole row that keeps the places of the columns that `slots` asks for.
-pub fn find_places(file: &[u8], layout: Layout, start: usize, end: usize, slots: [u8; 64]) -> Places
-    ensures { λ r. ⌜ r ≡ placesOf (now (file .entry)) layout start end slots ⌝ }
-{
-    if lies_outside(file, start, end) {
-        let none = Reach::Short;
-        return Places { reach: none, at: [0usize; 8] };
-    }
-    walk(file, layout, start, end, slots, count_columns(layout))
-}
-
 // The slots that ask for the id column and for one other, or for that one alone.
 fn slots_for(id: usize, column: usize) -> [u8; 64]
     requires { ⌜ (0 < id) × (id ≤ mostColumns) × (0 < column) × (column ≤ mostColumns) ⌝ }
@@ -287,10 +276,12 @@ fn judge_end(reach: Reach, end: usize, row: usize, id: Refusal) -> Refusal
 }
 
 // Where a field starts by its offset: within the row in any case.
-fn place_within(start: usize, end: usize, offset: usize) -> usize
-    requires { ⌜ start ≤ end ⌝ }
+pub fn place_within(start: usize, end: usize, offset: usize) -> usize
     ensures { λ r. ⌜ r ≡ min (start + offset) end ⌝ }
 {
+    if end < start {
+        return end;
+    }
     if offset <= end - start {
         return start + offset;
     }
@@ -352,23 +343,6 @@ fn find_column(file: &[u8], layout: Layout, start: usize, end: usize, row: usize
     find_by_offset(file, layout, start, end, row, column)
 }
 
-// Where a column starts in a row; 0 where no fields can be looked for, or there is no such column.
-pub fn column_place(file: &[u8], layout: Layout, start: usize, end: usize, column: usize) -> usize
-    ensures { λ r. ⌜ r ≡ placeFound (now (file .entry)) layout start end column ⌝ }
-{
-    if lies_outside(file, start, end) {
-        return 0;
-    }
-    if no_such_column(layout, layout.id) {
-        return 0;
-    }
-    if no_such_column(layout, column) {
-        return 0;
-    }
-    let found = find_column(file, layout, start, end, 0, column);
-    found.place
-}
-
 // A row in which no fields can be looked for: 10 outside the file, 9 where the layout has no id column.
 fn judge_place(file: &[u8], layout: Layout, start: usize, end: usize, row: usize) -> Refusal
     ensures { λ r. ⌜ r ≡ placeRefusal (now (file .entry)) layout start end row ⌝ }
@@ -406,15 +380,23 @@ fn entry_end(index: &[u8], order: Order, k: usize) -> usize
 }
 
 // The end of row k by its entry; of row 0, where row 1 starts.
+fn entry_bound(index: &[u8], order: Order, first: u32, k: usize) -> usize
+    requires { ⌜ k < 4294967296 ⌝ }
+    ensures { λ r. ⌜ r ≡ walkedBound order (now (index .entry)) first k ⌝ }
+{
+    if k == 0 {
+        return first as usize;
+    }
+    entry_end(index, order, k)
+}
+
+// The same by a layout.
 fn end_at(index: &[u8], layout: Layout, k: usize) -> usize
     requires { ⌜ k < 4294967296 ⌝ }
     ensures { λ r. ⌜ r ≡ endAt layout (now (index .entry)) k ⌝ }
 {
-    if k == 0 {
-        return layout.start as usize;
-    }
     let order = layout.order;
-    entry_end(index, order, k)
+    entry_bound(index, order, layout.start, k)
 }
 
 // The end of row k where all rows have one width.
@@ -430,17 +412,8 @@ fn bound_of(index: &[u8], layout: Layout, k: usize) -> usize
     requires { ⌜ k ≤ mostRows ⌝ }
     ensures { λ r. ⌜ r ≡ boundOf layout (now (index .entry)) k ⌝ }
 {
-    if layout.width == 0 {
-        return end_at(index, layout, k);
-    }
-    fixed_bound(layout.start, layout.width, k)
-}
-
-// The end of row k, and the start of row k + 1; past the millionth row, its end.
-pub fn row_bound(index: &[u8], layout: Layout, k: usize) -> usize
-    ensures { λ r. ⌜ r ≡ boundOf layout (now (index .entry)) (min k mostRows) ⌝ }
-{
-    bound_of(index, layout, lesser(k, MOST_ROWS))
+    let order = layout.order;
+    rows::bound_by(index, order, layout.start, layout.width, k)
 }
 
 // Row i of a table, judged: where it lies.

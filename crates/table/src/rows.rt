@@ -1,5 +1,5 @@
-// The rows of a table, judged lowest first. What a row needs of the layout is taken once for all rows, as plain numbers, so that a row
-// costs its own bytes and no copy of the layout.
+// The rows of a table by plain numbers, which are taken of the layout once for all rows, so that a row costs its own bytes and no copy
+// of the layout: judged lowest first, and the places of columns found.
 use crate::Reach;
 use crate::Table;
 use crate::BAD_TRIPLET;
@@ -13,13 +13,13 @@ use number::Order;
 use refusal::Refusal;
 ghost use mathlib.Core.Path.{_≡_};
 ghost use mathlib.Core.Bool.{cond};
-ghost use Prim.Native.Nat.{_≤_, _<_};
+ghost use Prim.Native.Nat.{min, _≤_, _<_};
 ghost use lib.ListN.{length};
 ghost use Rattle.refusal.specs.Order.{lowestOf};
 ghost use Rattle.header.specs.Judge.{mostColumns};
 ghost use Rattle.table.specs.Opening.{mostRows};
-ghost use Rattle.table.specs.Rows.{rowJudged, rowsRefusal};
-ghost use Rattle.table.specs.Plans.{idOffset, fixedRow, codeOf, planOf, codeEnd, plannedFields, plannedRow};
+ghost use Rattle.table.specs.Rows.{keptBy, rowJudged, rowsRefusal};
+ghost use Rattle.table.specs.Plans.{idOffset, fixedRow, boundBy, codeOf, planOf, codeEnd, planReach, plannedFields, plannedRow, plannedPlaces};
 
 // The code of a column in a plan: a triplet's; from 1 on, a `*` field's with elements of 0, 1, .. 24 bytes; from 26 on, a field's of 0,
 // 1, .. bytes.
@@ -96,7 +96,7 @@ fn code_of(column: ColumnLayout) -> u64
 }
 
 // The codes of all columns.
-fn plan_of(layout: Layout) -> [u64; 64]
+pub fn plan_of(layout: Layout) -> [u64; 64]
     ensures { λ r. ⌜ r ≡ planOf layout ⌝ }
 {
     let mut plan = [0u64; 64];
@@ -206,4 +206,53 @@ pub fn judge_rows(file: &[u8], index: &[u8], table: Table) -> Refusal
         return judge_walked(file, index, layout, n);
     }
     judge_fixed(file, index, layout, n)
+}
+
+// ---- rows that are judged already
+
+// The end of row k, and the start of row k + 1; past the millionth row, its end. `width` is 0 where the rows have an index.
+pub fn bound_by(index: &[u8], order: Order, first: u32, width: u32, k: usize) -> usize
+    ensures { λ r. ⌜ r ≡ boundBy order (now (index .entry)) first width (min k mostRows) ⌝ }
+{
+    let row = crate::lesser(k, MOST_ROWS);
+    if width == 0 {
+        return crate::entry_bound(index, order, first, row);
+    }
+    crate::fixed_bound(first, width, row)
+}
+
+// Past the columns 1..n of a row inside the file, keeping the places asked for.
+fn keep_places(file: &[u8], plan: &[u64; 64], slots: &[usize; 64], n: usize, order: Order, start: usize, end: usize) -> [usize; 8]
+    requires { ⌜ (start ≤ end) × (end ≤ length (now file)) × (n ≤ mostColumns) ⌝ }
+    ensures { λ r. ⌜ r ≡ keptBy (planReach order (now (file .entry)) (now (plan .entry)) start end) (now (slots .entry)) n ⌝ }
+{
+    let mut at = [0usize; 8];
+    let mut p = start;
+    let mut j: usize = 0;
+    while j < n {
+        crate::keep_place(&mut at, slots[j], p);
+        match code_end(file, p, end, plan[j], order) {
+            Reach::At(q) => {
+                p = q;
+            }
+            Reach::Short => {
+                return at;
+            }
+            Reach::Cut(_) => {
+                return at;
+            }
+        }
+        j += 1;
+    }
+    at
+}
+
+// One walk over the columns 1..n of a row that keeps the places of those that `slots` asks for.
+pub fn find_planned(file: &[u8], plan: &[u64; 64], slots: &[usize; 64], n: usize, order: Order, start: usize, end: usize) -> [usize; 8]
+    ensures { λ r. ⌜ r ≡ plannedPlaces order (now (file .entry)) (now (plan .entry)) start end (now (slots .entry)) n ⌝ }
+{
+    if crate::lies_outside(file, start, end) {
+        return [0usize; 8];
+    }
+    keep_places(file, plan, slots, crate::lesser(n, MOST_COLUMNS), order, start, end)
 }

@@ -1,10 +1,8 @@
 use native.Mathlib.Omega.{arith}
-use Rattle.table.proofs.ValueLaws.{part-beyond, part-cut, part-whole}
+use Rattle.laws.proofs.PlaceLaws.{part-beyond, part-cut, part-whole}
 use borrow.Author.Needs.{needs}
 use Rattle.table.proofs.part.Statement.{statement}
 use Rattle.table.proofs.part.Tie as tie
-use Rattle.table.proofs.part.Reads as reads
-use Rattle.table.proofs.part.Lts as lts
 
 -- src/lib.rt:576:16
 sub-result : tie.Need-sub-result

@@ -1,5 +1,5 @@
-use mathlib.Core.Path.{_≡_, refl, sym, ap, _∙_}
-use Prim.Native.Nat.{ℕ, suc, _+_, _-_, _≤_, _<_}
+use mathlib.Core.Path.{_≡_, refl, sym, _∙_}
+use Prim.Native.Nat.{suc, _-_, _≤_}
 use native.Mathlib.Omega.{arith}
 use lib.ListN.{length}
 use Rattle.table.specs.Rows.{reach, placesKept, columnAt}
@@ -9,10 +9,6 @@ use Rattle.table.proofs.WalkLaws.{reach-next, kept-next, stopped, throu
 use borrow.Author.Needs.{needs}
 use Rattle.table.proofs.walk.Statement.{statement}
 use Rattle.table.proofs.walk.Tie as tie
-use Rattle.table.proofs.walk.Reads as reads
-use Rattle.table.proofs.walk.Lts as lts
-use Rattle.table.proofs.field_end.Reads as field-end-reads
-use Rattle.table.proofs.keep_place.Reads as keep-place-reads
 
 abbrev Inv-loop : tie.InvT-loop
 Inv-loop file start end n layout slots order at₀ p₀ j₀ at p j =
@@ -68,7 +64,7 @@ returns c =
     let b = (c .before .before .before .before .before .before .before .before .loop) in
     stopped (s .file .now) (s .t2) (s .start) (s .end) (s .t5) Short (λ f. refl) (λ at k. refl) (b .j) (s .n) (b .p) _ (omega arith) (b .inv .2)
     (sym ((c .enum-told) .given .1) ∙ (c .before .before .field-end) .ensures)
-    (kept-next (s .file .now) (s .t2) (s .start) (s .end) (s .t5) (b .j) (b .p) (b .at) _ (b .inv .2) (b .inv .3) ((c .before .before .before .before .before .keep-place) .ensures)) _ refl refl
+    (kept-next (reach (s .file .now) (s .t2) (s .start) (s .end)) (s .t5) (b .j) (b .p) (b .at) _ (b .inv .2) (b .inv .3) ((c .before .before .before .before .before .keep-place) .ensures)) _ refl refl
 
 -- src/lib.rt:190:24
 enum-known-q-2 : tie.Need-enum-known-q-2 Inv-loop μ-loop
@@ -81,7 +77,7 @@ returns-2 c =
     let b = (c .before .before .before .before .before .before .before .before .before .loop) in
     stopped (s .file .now) (s .t2) (s .start) (s .end) (s .t5) (Cut _) (λ f. refl) (λ at k. refl) (b .j) (s .n) (b .p) _ (omega arith) (b .inv .2)
     (sym ((c .before .q2) .given .1) ∙ (c .before .before .before .field-end) .ensures)
-    (kept-next (s .file .now) (s .t2) (s .start) (s .end) (s .t5) (b .j) (b .p) (b .at) _ (b .inv .2) (b .inv .3) ((c .before .before .before .before .before .before .keep-place) .ensures)) _ refl refl
+    (kept-next (reach (s .file .now) (s .t2) (s .start) (s .end)) (s .t5) (b .j) (b .p) (b .at) _ (b .inv .2) (b .inv .3) ((c .before .before .before .before .before .before .keep-place) .ensures)) _ refl refl
 
 -- src/lib.rt:195:9
 add-j : tie.Need-add-j Inv-loop μ-loop
@@ -100,7 +96,7 @@ loop-again c =
     (omega arith,
     field-within (s .t2 .order) (s .file .now) (s .end) (columnAt (s .t2) (suc (b .j))) (b .p) _ (omega arith) (omega arith) (sym e),
     reach-next (s .file .now) (s .t2) (s .start) (s .end) (b .j) (b .p) _ (b .inv .2) e,
-    kept-next (s .file .now) (s .t2) (s .start) (s .end) (s .t5) (b .j) (b .p) (b .at) _ (b .inv .2) (b .inv .3) ((c .before .before .before .before .before .before .keep-place) .ensures),
+    kept-next (reach (s .file .now) (s .t2) (s .start) (s .end)) (s .t5) (b .j) (b .p) (b .at) _ (b .inv .2) (b .inv .3) ((c .before .before .before .before .before .before .keep-place) .ensures),
     (c .before .before .before .before .before .before .keep-place) .kept .0 ∙ b .inv .4)
 
 -- src/lib.rt:172:1

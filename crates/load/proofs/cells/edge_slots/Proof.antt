@@ -1,5 +1,5 @@
-use Rattle.load.specs.Cells.{slotsOf}
 use native.Mathlib.Omega.{arith}
+use Rattle.load.specs.CellPlans.{slotsOf}
 use borrow.Author.Needs.{needs}
 use Rattle.load.proofs.cells.edge_slots.Statement.{statement}
 use Rattle.load.proofs.cells.edge_slots.Tie as tie
@@ -10,6 +10,9 @@ array-read-slots c = search needs
 sub-slots : tie.Need-sub-slots
 sub-slots c = omega (arith, (c .pre) 1 (omega arith) (omega arith) .0)
 
+mul-slots : tie.Need-mul-slots
+mul-slots c = omega (arith, (c .pre) 1 (omega arith) (omega arith) .1)
+
 array-write-slots : tie.Need-array-write-slots
 array-write-slots c = omega (arith, (c .pre) 1 (omega arith) (omega arith) .0, (c .pre) 1 (omega arith) (omega arith) .1)
 
@@ -18,6 +21,9 @@ array-read-slots-2 c = search needs
 
 sub-slots-2 : tie.Need-sub-slots-2
 sub-slots-2 c = omega (arith, (c .pre) 2 (omega arith) (omega arith) .0)
+
+mul-slots-2 : tie.Need-mul-slots-2
+mul-slots-2 c = omega (arith, (c .pre) 2 (omega arith) (omega arith) .1)
 
 array-write-slots-2 : tie.Need-array-write-slots-2
 array-write-slots-2 c = omega (arith, (c .pre) 2 (omega arith) (omega arith) .0, (c .pre) 2 (omega arith) (omega arith) .1)
@@ -28,6 +34,9 @@ array-read-slots-3 c = search needs
 sub-slots-3 : tie.Need-sub-slots-3
 sub-slots-3 c = omega (arith, (c .pre) 3 (omega arith) (omega arith) .0)
 
+mul-slots-3 : tie.Need-mul-slots-3
+mul-slots-3 c = omega (arith, (c .pre) 3 (omega arith) (omega arith) .1)
+
 array-write-slots-3 : tie.Need-array-write-slots-3
 array-write-slots-3 c = omega (arith, (c .pre) 3 (omega arith) (omega arith) .0, (c .pre) 3 (omega arith) (omega arith) .1)
 
@@ -36,6 +45,9 @@ array-read-slots-4 c = search needs
 
 sub-slots-4 : tie.Need-sub-slots-4
 sub-slots-4 c = omega (arith, (c .pre) 4 (omega arith) (omega arith) .0)
+
+mul-slots-4 : tie.Need-mul-slots-4
+mul-slots-4 c = omega (arith, (c .pre) 4 (omega arith) (omega arith) .1)
 
 array-write-slots-4 : tie.Need-array-write-slots-4
 array-write-slots-4 c = omega (arith, (c .pre) 4 (omega arith) (omega arith) .0, (c .pre) 4 (omega arith) (omega arith) .1)
@@ -46,6 +58,9 @@ array-read-slots-5 c = search needs
 sub-slots-5 : tie.Need-sub-slots-5
 sub-slots-5 c = omega (arith, (c .pre) 5 (omega arith) (omega arith) .0)
 
+mul-slots-5 : tie.Need-mul-slots-5
+mul-slots-5 c = omega (arith, (c .pre) 5 (omega arith) (omega arith) .1)
+
 array-write-slots-5 : tie.Need-array-write-slots-5
 array-write-slots-5 c = omega (arith, (c .pre) 5 (omega arith) (omega arith) .0, (c .pre) 5 (omega arith) (omega arith) .1)
 
@@ -54,6 +69,9 @@ array-read-slots-6 c = search needs
 
 sub-slots-6 : tie.Need-sub-slots-6
 sub-slots-6 c = omega (arith, (c .pre) 6 (omega arith) (omega arith) .0)
+
+mul-slots-6 : tie.Need-mul-slots-6
+mul-slots-6 c = omega (arith, (c .pre) 6 (omega arith) (omega arith) .1)
 
 array-write-slots-6 : tie.Need-array-write-slots-6
 array-write-slots-6 c = omega (arith, (c .pre) 6 (omega arith) (omega arith) .0, (c .pre) 6 (omega arith) (omega arith) .1)
@@ -68,20 +86,26 @@ edge-slots-spec =
     (tie.spec
     array-read-slots
     sub-slots
+    mul-slots
     array-write-slots
     array-read-slots-2
     sub-slots-2
+    mul-slots-2
     array-write-slots-2
     array-read-slots-3
     sub-slots-3
+    mul-slots-3
     array-write-slots-3
     array-read-slots-4
     sub-slots-4
+    mul-slots-4
     array-write-slots-4
     array-read-slots-5
     sub-slots-5
+    mul-slots-5
     array-write-slots-5
     array-read-slots-6
     sub-slots-6
+    mul-slots-6
     array-write-slots-6
     returns)

@@ -1,41 +1,64 @@
-use mathlib.Core.Path.{_≡_, refl}
-use Prim.Native.Nat.{_-_, _≤_}
-use native.Mathlib.Omega.{arith}
-use lib.ListN.{length, length-set}
-use Rattle.laws.specs.Buffer.{front}
+use Rattle.load.proofs.CellLaws.{ends-at, one-from, column-written}
+use Rattle.load.specs.CellPlans.{columnCellBy}
+use Rattle.table.proofs.FoundLaws.{column-there}
+use Rattle.table.proofs.PlanLaws.{bound-first}
+use Rattle.table.specs.Plans.{boundBy}
 use Rattle.laws.proofs.BufferLaws.{front-next}
-use Rattle.table.specs.Rows.{boundOf}
-use Rattle.load.specs.Cells.{cellOf}
-use Rattle.load.proofs.CellLaws.{ends-at, row-fine, cell-of}
+use Rattle.laws.specs.Buffer.{front}
+use lib.ListN.{length, length-set}
+use native.Mathlib.Omega.{arith}
+use Prim.Native.Nat.{pred, _-_, _≤_}
+use mathlib.Core.Path.{_≡_, refl}
 use borrow.Author.Needs.{needs}
 use Rattle.load.proofs.cells.write_column.Statement.{statement}
 use Rattle.load.proofs.cells.write_column.Tie as tie
 
 abbrev Inv-loop : tie.InvT-loop
-Inv-loop file index column out₀ layout rows start₀ i₀ out start i =
-    (i ≤ rows) × (start ≡ boundOf layout index i) × (out ≡ front (cellOf file index layout column) i out₀) × (length out ≡ length out₀)
+Inv-loop file index column out₀ rows order first width letter offset plan slots start₀ i₀ out start i =
+    (i ≤ rows) × (start ≡ boundBy order index first width i)
+    × (out ≡ front (columnCellBy order file index first width plan slots column letter offset) i out₀) × (length out ≡ length out₀)
 
 abbrev μ-loop : tie.MeasureT-loop
-μ-loop file index column out₀ layout rows start₀ i₀ out start i = rows - i
+μ-loop file index column out₀ rows order first width letter offset plan slots start₀ i₀ out start i =
+    rows - i
 
-row-bound-requires : tie.Need-row-bound-requires Inv-loop μ-loop
-row-bound-requires c κs = search needs
+sub-c : tie.Need-sub-c Inv-loop μ-loop
+sub-c c = let d = column-there ((c .before .before .before .before .args) .table .layout) ((c .before .before .before .before .args) .column) ((c .before .before .before .before .pre) .1 .1 .0) in omega arith
+
+mul-c : tie.Need-mul-c Inv-loop μ-loop
+mul-c c = let d = column-there ((c .before .before .before .before .args) .table .layout) ((c .before .before .before .before .args) .column) ((c .before .before .before .before .pre) .1 .1 .0) in omega arith
+
+element-copy-out-c : tie.Need-element-copy-out-c Inv-loop μ-loop
+element-copy-out-c c = let d = column-there ((c .before .before .before .before .args) .table .layout) ((c .before .before .before .before .args) .column) ((c .before .before .before .before .pre) .1 .1 .0) in omega arith
+
+letter-requires : tie.Need-letter-requires Inv-loop μ-loop
+letter-requires c κs = search needs
+
+cast-offset : tie.Need-cast-offset Inv-loop μ-loop
+cast-offset c = search needs
+
+plan-of-requires : tie.Need-plan-of-requires Inv-loop μ-loop
+plan-of-requires c κs = search needs
+
+slot-for-requires : tie.Need-slot-for-requires Inv-loop μ-loop
+slot-for-requires c κs = column-there ((c .before .before .before .before .before .before .before .before .args) .table .layout) ((c .before .before .before .before .before .before .before .before .args) .column) ((c .before .before .before .before .before .before .before .before .pre) .1 .1 .0)
+
+cast-start : tie.Need-cast-start Inv-loop μ-loop
+cast-start c = search needs
 
 loop-holds : tie.Need-loop-holds Inv-loop μ-loop
-loop-holds c = (omega arith, (c .row-bound) .ensures, refl, refl)
+loop-holds c =
+    let l = (c .before .before .before .before .before .before .before .before .before .args) .table .layout in
+    (omega arith, bound-first (l .order) ((c .before .before .before .before .before .before .before .before .before .args) .index .now) (l .start) (l .width), refl, refl)
 
-add-row-bound : tie.Need-add-row-bound Inv-loop μ-loop
-add-row-bound c = search needs
+add-bound-by : tie.Need-add-bound-by Inv-loop μ-loop
+add-bound-by c = search needs
 
-row-bound-requires-2 : tie.Need-row-bound-requires-2 Inv-loop μ-loop
-row-bound-requires-2 c κs = search needs
+bound-by-requires : tie.Need-bound-by-requires Inv-loop μ-loop
+bound-by-requires c κs = search needs
 
-cell-requires : tie.Need-cell-requires Inv-loop μ-loop
-cell-requires c κs =
-    let s = (c .before .before .before .before .before .before .before .before .args) in
-    let b = (c .before .before .loop) in
-    let f = row-fine (s .file .now) (s .index .now) (s .table .layout) (s .table .rows) (b .i) (b .start) ((c .row-bound2) .result) ((c .before .before .before .before .before .before .before .before .pre) .0) ((c .before .loop-test) .taken) (b .inv .1) ((c .row-bound2) .ensures) ((c .before .before .before .before .before .before .before .before .pre) .1 .0) in
-    ((c .before .before .before .before .before .before .before .before .pre) .1 .1 .0, (f .1, f .0))
+column-cell-requires : tie.Need-column-cell-requires Inv-loop μ-loop
+column-cell-requires c κs = search needs
 
 mul-out : tie.Need-mul-out Inv-loop μ-loop
 mul-out c = search needs
@@ -51,15 +74,18 @@ loop-less c = search needs
 
 loop-again : tie.Need-loop-again Inv-loop μ-loop
 loop-again c =
-    let s = (c .before .before .before .before .before .before .before .before .before .args) in
-    let b = (c .before .before .before .loop) in
-    let few = (c .before .before .before .before .before .before .before .before .before .pre) .0 in
-    let more = (c .before .before .loop-test) .taken in
+    let s = (c .before .before .before .before .before .before .before .before .before .before .before .before .before .before .before .args) in
+    let l = s .table .layout in
+    let b = (c .before .before .before .before .before .loop) in
+    let few = (c .before .before .before .before .before .before .before .before .before .before .before .before .before .before .before .pre) .0 in
+    let more = (c .before .before .before .before .loop-test) .taken in
+    let plan = (c .before .before .before .before .before .before .before .plan-of) .result in
+    let slots = (c .before .before .before .before .before .before .slot-for) .result in
     (omega arith,
-    ends-at (s .file .now) (s .index .now) (s .table .layout) (s .table .rows) (b .i) (b .start) ((c .before .row-bound2) .result) few more (b .inv .1) ((c .before .row-bound2) .ensures),
-    front-next (cellOf (s .file .now) (s .index .now) (s .table .layout) (s .column)) (b .i) _ (b .out) (s .out .now) (b .inv .2)
-    (cell-of (s .file .now) (s .index .now) (s .table .layout) (s .table .rows) (b .i) (b .start) ((c .before .row-bound2) .result) few more (b .inv .1) ((c .before .row-bound2) .ensures) (s .column) _ ((c .cell) .ensures))
-    (omega (arith, (c .before .before .before .before .before .before .before .before .before .pre) .1 .1 .1)),
+    ends-at (l .order) (s .index .now) (l .start) (l .width) (s .table .rows) (b .i) (b .start) ((c .before .before .before .bound-by) .result) few more (b .inv .1) ((c .before .before .before .bound-by) .ensures),
+    front-next (columnCellBy (l .order) (s .file .now) (s .index .now) (l .start) (l .width) plan slots (s .column) ((c .before .before .before .before .before .before .before .before .before .letter) .result) _) (b .i) _ (b .out) (s .out .now) (b .inv .2)
+    (one-from (l .order) (s .index .now) (l .start) (l .width) (s .table .rows) (b .i) (b .start) ((c .before .before .before .bound-by) .result) few more (b .inv .1) ((c .before .before .before .bound-by) .ensures) (s .file .now) plan slots (s .column) ((c .before .before .before .before .before .before .before .before .before .letter) .result) _ _ ((c .column-cell) .ensures))
+    (omega (arith, (c .before .before .before .before .before .before .before .before .before .before .before .before .before .before .before .pre) .1 .1 .1)),
     simp length-set (b .inv .3))
 
 same-length : tie.Need-same-length Inv-loop μ-loop
@@ -67,10 +93,13 @@ same-length c = search needs
 
 returns : tie.Need-returns Inv-loop μ-loop
 returns c =
-    let s = (c .before .before .before .before .before .before .before .args) in
+    let s = (c .before .before .before .before .before .before .before .before .before .before .before .args) in
+    let l = s .table .layout in
     let b = (c .before .loop) in
-    let q : b .i ≡ s .table .rows = omega arith in
-    rw q at (b .inv .2)
+    let d = column-there l (s .column) ((c .before .before .before .before .before .before .before .before .before .before .before .pre) .1 .1 .0) in
+    let q : pred (s .column) ≡ s .column - 1 = omega arith in
+    let all : b .i ≡ s .table .rows = omega arith in
+    column-written (s .file .now) (s .index .now) l (s .table .rows) ((c .before .before .before .before .before .before .before .before .before .before .before .pre) .1 .0) ((c .before .before .before .plan-of) .result) ((c .before .before .before .plan-of) .ensures) (s .column) ((c .before .before .before .before .before .before .before .before .before .before .before .pre) .1 .1 .0) ((c .before .before .slot-for) .result) ((c .before .before .slot-for) .ensures) ((c .before .before .before .before .before .letter) .result) _ (rw q ((c .before .before .before .before .before .letter) .ensures)) (rw q) (b .i) (s .out .now) (b .out) all (b .inv .2)
 
 pub write-column-spec : {M : Type 1} → statement M
 write-column-spec =
@@ -78,11 +107,18 @@ write-column-spec =
     (tie.spec
     Inv-loop
     μ-loop
-    row-bound-requires
+    sub-c
+    mul-c
+    element-copy-out-c
+    letter-requires
+    cast-offset
+    plan-of-requires
+    slot-for-requires
+    cast-start
     loop-holds
-    add-row-bound
-    row-bound-requires-2
-    cell-requires
+    add-bound-by
+    bound-by-requires
+    column-cell-requires
     mul-out
     slice-write-out
     add-i

@@ -1,53 +1,59 @@
-use mathlib.Core.Path.{_≡_, refl}
-use Prim.Native.Nat.{_-_, _≤_}
-use native.Mathlib.Omega.{arith}
-use lib.ListN.{length, length-set}
-use Rattle.laws.specs.Buffer.{front}
+use Rattle.load.proofs.CellLaws.{six-there, ends-at, six-from, edge-written}
+use Rattle.load.specs.CellPlans.{edgeCellBy}
+use Rattle.table.proofs.PlanLaws.{bound-first}
+use Rattle.table.specs.Plans.{boundBy}
 use Rattle.laws.proofs.BufferLaws.{front-next}
-use Rattle.table.specs.Rows.{boundOf}
-use Rattle.load.specs.Sources.{atPlace}
-use Rattle.load.specs.Cells.{cellOf}
-use Rattle.load.proofs.CellLaws.{six-there, ends-at, row-fine, six-of}
+use Rattle.laws.specs.Buffer.{front}
+use lib.ListN.{length, length-set}
+use native.Mathlib.Omega.{arith}
+use Prim.Native.Nat.{_-_, _≤_}
+use mathlib.Core.Path.{_≡_, refl}
 use borrow.Author.Needs.{needs}
 use Rattle.load.proofs.cells.write_edges.Statement.{statement}
 use Rattle.load.proofs.cells.write_edges.Tie as tie
 
 abbrev Inv-loop : tie.InvT-loop
-Inv-loop file index columns start-node₀ end-node₀ right-face₀ left-face₀ right-edge₀ left-edge₀ layout rows slots start₀ i₀ start-node end-node right-face left-face right-edge left-edge start i =
-    (i ≤ rows) × (start ≡ boundOf layout index i)
-    × (start-node ≡ front (cellOf file index layout (atPlace columns 1)) i start-node₀) × (length start-node ≡ length start-node₀)
-    × (end-node ≡ front (cellOf file index layout (atPlace columns 2)) i end-node₀) × (length end-node ≡ length end-node₀)
-    × (right-face ≡ front (cellOf file index layout (atPlace columns 3)) i right-face₀) × (length right-face ≡ length right-face₀)
-    × (left-face ≡ front (cellOf file index layout (atPlace columns 4)) i left-face₀) × (length left-face ≡ length left-face₀)
-    × (right-edge ≡ front (cellOf file index layout (atPlace columns 5)) i right-edge₀) × (length right-edge ≡ length right-edge₀)
-    × (left-edge ≡ front (cellOf file index layout (atPlace columns 6)) i left-edge₀) × (length left-edge ≡ length left-edge₀)
+Inv-loop file index start-node₀ end-node₀ right-face₀ left-face₀ right-edge₀ left-edge₀ columns rows order first width n plan slots letters offsets start₀ i₀ start-node end-node right-face left-face right-edge left-edge start i =
+    (i ≤ rows) × (start ≡ boundBy order index first width i)
+    × (start-node ≡ front (edgeCellBy order file index first width plan slots letters offsets columns n 0) i start-node₀) × (length start-node ≡ length start-node₀)
+    × (end-node ≡ front (edgeCellBy order file index first width plan slots letters offsets columns n 1) i end-node₀) × (length end-node ≡ length end-node₀)
+    × (right-face ≡ front (edgeCellBy order file index first width plan slots letters offsets columns n 2) i right-face₀) × (length right-face ≡ length right-face₀)
+    × (left-face ≡ front (edgeCellBy order file index first width plan slots letters offsets columns n 3) i left-face₀) × (length left-face ≡ length left-face₀)
+    × (right-edge ≡ front (edgeCellBy order file index first width plan slots letters offsets columns n 4) i right-edge₀) × (length right-edge ≡ length right-edge₀)
+    × (left-edge ≡ front (edgeCellBy order file index first width plan slots letters offsets columns n 5) i left-edge₀) × (length left-edge ≡ length left-edge₀)
 
 abbrev μ-loop : tie.MeasureT-loop
-μ-loop file index columns start-node₀ end-node₀ right-face₀ left-face₀ right-edge₀ left-edge₀ layout rows slots start₀ i₀ start-node end-node right-face left-face right-edge left-edge start i =
+μ-loop file index start-node₀ end-node₀ right-face₀ left-face₀ right-edge₀ left-edge₀ columns rows order first width n plan slots letters offsets start₀ i₀ start-node end-node right-face left-face right-edge left-edge start i =
     rows - i
 
-edge-slots-requires : tie.Need-edge-slots-requires Inv-loop μ-loop
-edge-slots-requires c κs = six-there ((c .before .before .before .before .before .before .before .before .before .args) .table .layout) ((c .before .before .before .before .before .before .before .before .before .args) .columns) ((c .before .before .before .before .before .before .before .before .before .pre) .1 .1 .0)
+plan-of-requires : tie.Need-plan-of-requires Inv-loop μ-loop
+plan-of-requires c κs = search needs
 
-row-bound-requires : tie.Need-row-bound-requires Inv-loop μ-loop
-row-bound-requires c κs = search needs
+edge-slots-requires : tie.Need-edge-slots-requires Inv-loop μ-loop
+edge-slots-requires c κs = six-there ((c .before .before .before .before .before .before .before .before .before .before .args) .table .layout) ((c .before .before .before .before .before .before .before .before .before .before .args) .t4) ((c .before .before .before .before .before .before .before .before .before .before .pre) .1 .1 .0)
+
+edge-letters-requires : tie.Need-edge-letters-requires Inv-loop μ-loop
+edge-letters-requires c κs = six-there ((c .before .before .before .before .before .before .before .before .before .before .before .args) .table .layout) ((c .before .before .before .before .before .before .before .before .before .before .before .args) .t4) ((c .before .before .before .before .before .before .before .before .before .before .before .pre) .1 .1 .0)
+
+edge-offsets-requires : tie.Need-edge-offsets-requires Inv-loop μ-loop
+edge-offsets-requires c κs = six-there ((c .before .before .before .before .before .before .before .before .before .before .before .before .args) .table .layout) ((c .before .before .before .before .before .before .before .before .before .before .before .before .args) .t4) ((c .before .before .before .before .before .before .before .before .before .before .before .before .pre) .1 .1 .0)
+
+cast-start : tie.Need-cast-start Inv-loop μ-loop
+cast-start c = search needs
 
 loop-holds : tie.Need-loop-holds Inv-loop μ-loop
-loop-holds c = (omega arith, (c .row-bound) .ensures, refl, refl, refl, refl, refl, refl, refl, refl, refl, refl, refl, refl)
+loop-holds c =
+    let l = (c .before .before .before .before .before .before .before .before .before .before .before .before .before .args) .table .layout in
+    (omega arith, bound-first (l .order) ((c .before .before .before .before .before .before .before .before .before .before .before .before .before .args) .index .now) (l .start) (l .width), refl, refl, refl, refl, refl, refl, refl, refl, refl, refl, refl, refl)
 
-add-row-bound : tie.Need-add-row-bound Inv-loop μ-loop
-add-row-bound c = search needs
+add-bound-by : tie.Need-add-bound-by Inv-loop μ-loop
+add-bound-by c = search needs
 
-row-bound-requires-2 : tie.Need-row-bound-requires-2 Inv-loop μ-loop
-row-bound-requires-2 c κs = search needs
+bound-by-requires : tie.Need-bound-by-requires Inv-loop μ-loop
+bound-by-requires c κs = search needs
 
 edge-cells-requires : tie.Need-edge-cells-requires Inv-loop μ-loop
-edge-cells-requires c κs =
-    let s = (c .before .before .before .before .before .before .before .before .before .before .before .before .before .before .args) in
-    let b = (c .before .before .loop) in
-    let h = (c .before .before .before .before .before .before .before .before .before .before .before .before .before .before .pre) in
-    let f = row-fine (s .file .now) (s .index .now) (s .table .layout) (s .table .rows) (b .i) (b .start) ((c .row-bound2) .result) (h .0) ((c .before .loop-test) .taken) (b .inv .1) ((c .row-bound2) .ensures) (h .1 .0) in
-    (h .1 .1 .0, (f .1, (f .0, (c .before .before .before .before .edge-slots) .ensures)))
+edge-cells-requires c κs = (six-there ((c .before .before .before .before .before .before .before .before .before .before .before .before .before .before .before .before .before .before .before .before .before .args) .table .layout) ((c .before .before .before .before .before .before .before .before .before .before .before .before .before .before .before .before .before .before .before .before .before .args) .t4) ((c .before .before .before .before .before .before .before .before .before .before .before .before .before .before .before .before .before .before .before .before .before .pre) .1 .1 .0), (c .before .before .before .before .before .before .before .before .before .before .edge-slots) .ensures)
 
 array-read-start-node : tie.Need-array-read-start-node Inv-loop μ-loop
 array-read-start-node c = search needs
@@ -56,7 +62,7 @@ mul-start-node : tie.Need-mul-start-node Inv-loop μ-loop
 mul-start-node c = search needs
 
 slice-write-start-node : tie.Need-slice-write-start-node Inv-loop μ-loop
-slice-write-start-node c = search needs
+slice-write-start-node c = omega (arith, (c .before .before .before .before .before .before .before .loop-test) .taken, (c .before .before .before .before .before .before .before .before .loop) .inv .3, (c .before .before .before .before .before .before .before .before .before .before .before .before .before .before .before .before .before .before .before .before .before .before .pre) .1 .1 .1 .0)
 
 array-read-end-node : tie.Need-array-read-end-node Inv-loop μ-loop
 array-read-end-node c = search needs
@@ -65,7 +71,7 @@ mul-end-node : tie.Need-mul-end-node Inv-loop μ-loop
 mul-end-node c = search needs
 
 slice-write-end-node : tie.Need-slice-write-end-node Inv-loop μ-loop
-slice-write-end-node c = search needs
+slice-write-end-node c = omega (arith, (c .before .before .before .before .before .before .before .loop-test) .taken, (c .before .before .before .before .before .before .before .before .loop) .inv .5, (c .before .before .before .before .before .before .before .before .before .before .before .before .before .before .before .before .before .before .before .before .before .before .pre) .1 .1 .1 .1)
 
 array-read-right-face : tie.Need-array-read-right-face Inv-loop μ-loop
 array-read-right-face c = search needs
@@ -74,7 +80,7 @@ mul-right-face : tie.Need-mul-right-face Inv-loop μ-loop
 mul-right-face c = search needs
 
 slice-write-right-face : tie.Need-slice-write-right-face Inv-loop μ-loop
-slice-write-right-face c = search needs
+slice-write-right-face c = omega (arith, (c .before .before .before .before .before .before .before .loop-test) .taken, (c .before .before .before .before .before .before .before .before .loop) .inv .7, (c .before .before .before .before .before .before .before .before .before .before .before .before .before .before .before .before .before .before .before .before .before .before .pre) .1 .1 .1 .2)
 
 array-read-left-face : tie.Need-array-read-left-face Inv-loop μ-loop
 array-read-left-face c = search needs
@@ -83,7 +89,7 @@ mul-left-face : tie.Need-mul-left-face Inv-loop μ-loop
 mul-left-face c = search needs
 
 slice-write-left-face : tie.Need-slice-write-left-face Inv-loop μ-loop
-slice-write-left-face c = search needs
+slice-write-left-face c = omega (arith, (c .before .before .before .before .before .before .before .loop-test) .taken, (c .before .before .before .before .before .before .before .before .loop) .inv .9, (c .before .before .before .before .before .before .before .before .before .before .before .before .before .before .before .before .before .before .before .before .before .before .pre) .1 .1 .1 .3)
 
 array-read-right-edge : tie.Need-array-read-right-edge Inv-loop μ-loop
 array-read-right-edge c = search needs
@@ -92,7 +98,7 @@ mul-right-edge : tie.Need-mul-right-edge Inv-loop μ-loop
 mul-right-edge c = search needs
 
 slice-write-right-edge : tie.Need-slice-write-right-edge Inv-loop μ-loop
-slice-write-right-edge c = search needs
+slice-write-right-edge c = omega (arith, (c .before .before .before .before .before .before .before .loop-test) .taken, (c .before .before .before .before .before .before .before .before .loop) .inv .11, (c .before .before .before .before .before .before .before .before .before .before .before .before .before .before .before .before .before .before .before .before .before .before .pre) .1 .1 .1 .4)
 
 array-read-left-edge : tie.Need-array-read-left-edge Inv-loop μ-loop
 array-read-left-edge c = search needs
@@ -101,7 +107,7 @@ mul-left-edge : tie.Need-mul-left-edge Inv-loop μ-loop
 mul-left-edge c = search needs
 
 slice-write-left-edge : tie.Need-slice-write-left-edge Inv-loop μ-loop
-slice-write-left-edge c = search needs
+slice-write-left-edge c = omega (arith, (c .before .before .before .before .before .before .before .loop-test) .taken, (c .before .before .before .before .before .before .before .before .loop) .inv .13, (c .before .before .before .before .before .before .before .before .before .before .before .before .before .before .before .before .before .before .before .before .before .before .pre) .1 .1 .1 .5)
 
 add-i : tie.Need-add-i Inv-loop μ-loop
 add-i c = search needs
@@ -111,25 +117,30 @@ loop-less c = search needs
 
 loop-again : tie.Need-loop-again Inv-loop μ-loop
 loop-again c =
-    let s = (c .before .before .before .before .before .before .before .before .before .before .before .before .before .before .before .args) in
-    let b = (c .before .before .before .loop) in
-    let h = (c .before .before .before .before .before .before .before .before .before .before .before .before .before .before .before .pre) .1 .1 .1 in
-    let few = (c .before .before .before .before .before .before .before .before .before .before .before .before .before .before .before .pre) .0 in
-    let more = (c .before .before .loop-test) .taken in
-    let v = six-of (s .file .now) (s .index .now) (s .table .layout) (s .table .rows) (b .i) (b .start) ((c .before .row-bound2) .result) few more (b .inv .1) ((c .before .row-bound2) .ensures) (s .columns) ((c .edge-cells) .result) ((c .edge-cells) .ensures) in
+    let s = (c .before .before .before .before .before .before .before .before .before .before .before .before .before .before .before .before .before .before .before .before .before .before .args) in
+    let l = s .table .layout in
+    let b = (c .before .before .before .before .before .before .before .before .loop) in
+    let h = (c .before .before .before .before .before .before .before .before .before .before .before .before .before .before .before .before .before .before .before .before .before .before .pre) .1 .1 .1 in
+    let few = (c .before .before .before .before .before .before .before .before .before .before .before .before .before .before .before .before .before .before .before .before .before .before .pre) .0 in
+    let more = (c .before .before .before .before .before .before .before .loop-test) .taken in
+    let plan = (c .before .before .before .before .before .before .before .before .before .before .before .before .plan-of) .result in
+    let slots = (c .before .before .before .before .before .before .before .before .before .before .before .edge-slots) .result in
+    let letters = (c .before .before .before .before .before .before .before .before .before .before .edge-letters) .result in
+    let offsets = (c .before .before .before .before .before .before .before .before .before .edge-offsets) .result in
+    let v = six-from (l .order) (s .index .now) (l .start) (l .width) (s .table .rows) (b .i) (b .start) ((c .before .before .before .before .before .before .bound-by) .result) few more (b .inv .1) ((c .before .before .before .before .before .before .bound-by) .ensures) (s .file .now) plan slots letters offsets (s .t4) ((c .edge-cells) .result) (l .columns) ((c .edge-cells) .ensures) in
     (omega arith,
-    ends-at (s .file .now) (s .index .now) (s .table .layout) (s .table .rows) (b .i) (b .start) ((c .before .row-bound2) .result) few more (b .inv .1) ((c .before .row-bound2) .ensures),
-    front-next (cellOf (s .file .now) (s .index .now) (s .table .layout) (atPlace (s .columns) 1)) (b .i) _ (b .start-node) (s .start-node .now) (b .inv .2) (v .0) (omega (arith, h .0)),
+    ends-at (l .order) (s .index .now) (l .start) (l .width) (s .table .rows) (b .i) (b .start) ((c .before .before .before .before .before .before .bound-by) .result) few more (b .inv .1) ((c .before .before .before .before .before .before .bound-by) .ensures),
+    front-next (edgeCellBy (l .order) (s .file .now) (s .index .now) (l .start) (l .width) plan slots letters offsets (s .t4) (l .columns) 0) (b .i) _ (b .start-node) (s .start-node .now) (b .inv .2) (v 0) (omega (arith, h .0)),
     simp length-set (b .inv .3),
-    front-next (cellOf (s .file .now) (s .index .now) (s .table .layout) (atPlace (s .columns) 2)) (b .i) _ (b .end-node) (s .end-node .now) (b .inv .4) (v .1) (omega (arith, h .1)),
+    front-next (edgeCellBy (l .order) (s .file .now) (s .index .now) (l .start) (l .width) plan slots letters offsets (s .t4) (l .columns) 1) (b .i) _ (b .end-node) (s .end-node .now) (b .inv .4) (v 1) (omega (arith, h .1)),
     simp length-set (b .inv .5),
-    front-next (cellOf (s .file .now) (s .index .now) (s .table .layout) (atPlace (s .columns) 3)) (b .i) _ (b .right-face) (s .right-face .now) (b .inv .6) (v .2) (omega (arith, h .2)),
+    front-next (edgeCellBy (l .order) (s .file .now) (s .index .now) (l .start) (l .width) plan slots letters offsets (s .t4) (l .columns) 2) (b .i) _ (b .right-face) (s .right-face .now) (b .inv .6) (v 2) (omega (arith, h .2)),
     simp length-set (b .inv .7),
-    front-next (cellOf (s .file .now) (s .index .now) (s .table .layout) (atPlace (s .columns) 4)) (b .i) _ (b .left-face) (s .left-face .now) (b .inv .8) (v .3) (omega (arith, h .3)),
+    front-next (edgeCellBy (l .order) (s .file .now) (s .index .now) (l .start) (l .width) plan slots letters offsets (s .t4) (l .columns) 3) (b .i) _ (b .left-face) (s .left-face .now) (b .inv .8) (v 3) (omega (arith, h .3)),
     simp length-set (b .inv .9),
-    front-next (cellOf (s .file .now) (s .index .now) (s .table .layout) (atPlace (s .columns) 5)) (b .i) _ (b .right-edge) (s .right-edge .now) (b .inv .10) (v .4) (omega (arith, h .4)),
+    front-next (edgeCellBy (l .order) (s .file .now) (s .index .now) (l .start) (l .width) plan slots letters offsets (s .t4) (l .columns) 4) (b .i) _ (b .right-edge) (s .right-edge .now) (b .inv .10) (v 4) (omega (arith, h .4)),
     simp length-set (b .inv .11),
-    front-next (cellOf (s .file .now) (s .index .now) (s .table .layout) (atPlace (s .columns) 6)) (b .i) _ (b .left-edge) (s .left-edge .now) (b .inv .12) (v .5) (omega (arith, h .5)),
+    front-next (edgeCellBy (l .order) (s .file .now) (s .index .now) (l .start) (l .width) plan slots letters offsets (s .t4) (l .columns) 5) (b .i) _ (b .left-edge) (s .left-edge .now) (b .inv .12) (v 5) (omega (arith, h .5)),
     simp length-set (b .inv .13))
 
 same-length : tie.Need-same-length Inv-loop μ-loop
@@ -152,10 +163,16 @@ same-length-6 c = search needs
 
 returns : tie.Need-returns Inv-loop μ-loop
 returns c =
-    let s = (c .before .before .before .before .before .before .before .before .before .before .before .before .before .args) in
+    let s = (c .before .before .before .before .before .before .before .before .before .before .before .before .before .before .before .args) in
     let b = (c .before .loop) in
-    let q : b .i ≡ s .table .rows = omega arith in
-    (rw q at (b .inv .2), (rw q at (b .inv .4), (rw q at (b .inv .6), (rw q at (b .inv .8), (rw q at (b .inv .10), rw q at (b .inv .12))))))
+    let all : b .i ≡ s .table .rows = omega arith in
+    let w = edge-written (s .file .now) (s .index .now) (s .table .layout) (s .table .rows) ((c .before .before .before .before .before .before .before .before .before .before .before .before .before .before .before .pre) .1 .0) ((c .before .before .before .before .before .plan-of) .result) ((c .before .before .before .before .before .plan-of) .ensures) (s .t4) ((c .before .before .before .before .edge-slots) .result) ((c .before .before .before .edge-letters) .result) ((c .before .before .edge-offsets) .result) ((c .before .before .before .before .before .before .before .before .before .before .before .before .before .before .before .pre) .1 .1 .0) ((c .before .before .before .before .edge-slots) .ensures) ((c .before .before .before .edge-letters) .ensures) ((c .before .before .edge-offsets) .ensures) in
+    (w 0 (omega arith) (b .i) (s .start-node .now) (b .start-node) all (b .inv .2),
+    (w 1 (omega arith) (b .i) (s .end-node .now) (b .end-node) all (b .inv .4),
+    (w 2 (omega arith) (b .i) (s .right-face .now) (b .right-face) all (b .inv .6),
+    (w 3 (omega arith) (b .i) (s .left-face .now) (b .left-face) all (b .inv .8),
+    (w 4 (omega arith) (b .i) (s .right-edge .now) (b .right-edge) all (b .inv .10),
+    w 5 (omega arith) (b .i) (s .left-edge .now) (b .left-edge) all (b .inv .12))))))
 
 pub write-edges-spec : {M : Type 1} → statement M
 write-edges-spec =
@@ -163,11 +180,14 @@ write-edges-spec =
     (tie.spec
     Inv-loop
     μ-loop
+    plan-of-requires
     edge-slots-requires
-    row-bound-requires
+    edge-letters-requires
+    edge-offsets-requires
+    cast-start
     loop-holds
-    add-row-bound
-    row-bound-requires-2
+    add-bound-by
+    bound-by-requires
     edge-cells-requires
     array-read-start-node
     mul-start-node

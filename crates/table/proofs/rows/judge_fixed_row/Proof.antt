@@ -1,5 +1,3 @@
-use mathlib.Core.Path.{sym, _∙_}
-use Rattle.table.proofs.RowLaws.{inside}
 use borrow.Author.Needs.{needs}
 use Rattle.table.specs.Plans.{fixedRow}
 use Rattle.table.proofs.rows.judge_fixed_row.Statement.{statement}
@@ -29,7 +27,7 @@ returns-2 c = simp (← c .refuse2 .ensures, c .before .if2 .taken, c .before .b
 
 -- src/rows.rt:54:34
 place-within-requires : tie.Need-place-within-requires
-place-within-requires c κs = inside ((c .before .before .before .before .args) .file .now) ((c .before .before .before .before .args) .start) ((c .before .before .before .before .args) .end) (sym ((c .before .before .lies-outside) .ensures) ∙ (c .before .if1) .left) .0
+place-within-requires c κs = search needs
 
 -- src/rows.rt:54:5
 judge-id-requires : tie.Need-judge-id-requires

@@ -1,7 +1,7 @@
 use borrow.Author.Tests.{le-ltb, lt-ltb}
-use Rattle.load.specs.Cells.{natural}
-use Rattle.load.proofs.cells.natural_of.Statement.{statement}
-use Rattle.load.proofs.cells.natural_of.Tie as tie
+use Rattle.cell.specs.Numbers.{natural}
+use Rattle.cell.proofs.natural_of.Statement.{statement}
+use Rattle.cell.proofs.natural_of.Tie as tie
 
 returns : tie.Need-returns
 unfolding natural
