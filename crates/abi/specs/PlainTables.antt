@@ -13,13 +13,13 @@ use Rattle.header.specs.declared.Answer.{Answer}
 use Rattle.header.specs.declared.Answer.the-variants as answer
 use Rattle.header.specs.declared.Header.{Header}
 use Rattle.header.specs.declared.Layout.{Layout}
-use Rattle.table.specs.declared.Table.{Table}
-use Rattle.table.specs.declared.Opened.{Opened}
+use Rattle.opening.specs.declared.Table.{Table}
+use Rattle.opening.specs.declared.Opened.{Opened}
 use Rattle.table.specs.declared.Row.{Row}
 use Rattle.table.specs.declared.Row.the-variants as row
 use Rattle.table.specs.declared.Value.{Value}
 use Rattle.table.specs.declared.Value.the-variants as value
-use Rattle.table.specs.Opening.{mostRows, openedOf}
+use Rattle.opening.specs.Opening.{mostRows, openedOf}
 use Rattle.table.specs.Rows.{rowsRefusal, rowOf}
 use Rattle.table.specs.Values.{valueOf}
 use Rattle.rectangle.specs.Rectangles as rectangle

@@ -11,16 +11,16 @@ use header::Header;
 use number::Order;
 use rectangle::Found;
 use refusal::Refusal;
-use table::Opened;
+use opening::Opened;
 use table::Row;
-use table::Table;
+use opening::Table;
 use table::Value;
 ghost use mathlib.Core.Path.{_≡_};
 ghost use Rattle.bounds.specs.Bounds.{rectangle32, rectangle64};
 ghost use Rattle.header.specs.declared.Answer.the-variants as answers;
 ghost use Rattle.header.specs.Layouts.{headerOf};
 ghost use Rattle.header.specs.Steps.{columnOf};
-ghost use Rattle.table.specs.Opening.{mostRows, openedOf, noTable};
+ghost use Rattle.opening.specs.Opening.{mostRows, openedOf, noTable};
 ghost use Rattle.rectangle.specs.Rectangles.{answer};
 ghost use Rattle.abi.specs.PlainTables.{letterOf, plainHeader, opened, plainTable, rowsJudged, plainRow, rowIn, pattern, partOf, plainValue, valueIn, nowhere, plainBounds, plainRectangle, rectangleIn};
 
@@ -318,7 +318,7 @@ pub extern "C" fn vumbarete_find_column(file: &[u8], name: &[u8]) -> usize
 pub extern "C" fn vumbarete_open(file: &[u8], index: &[u8]) -> PlainTable
     ensures { λ r. ⌜ r ≡ plainTable (openedOf (now (file .entry)) (now (index .entry)) mostRows) ⌝ }
 {
-    plain_table(table::opening::open_table(file, index))
+    plain_table(opening::open_table(file, index))
 }
 
 // Where row i of a table lies.
@@ -326,7 +326,7 @@ pub extern "C" fn vumbarete_open(file: &[u8], index: &[u8]) -> PlainTable
 pub extern "C" fn vumbarete_row(file: &[u8], index: &[u8], row: usize) -> PlainRow
     ensures { λ r. ⌜ r ≡ plainRow (rowIn (now (file .entry)) (now (index .entry)) row) ⌝ }
 {
-    let opened = table::opening::open_table(file, index);
+    let opened = opening::open_table(file, index);
     let answer = opened.answer;
     match answer {
         Answer::Accepted => {
@@ -342,7 +342,7 @@ pub extern "C" fn vumbarete_row(file: &[u8], index: &[u8], row: usize) -> PlainR
 pub extern "C" fn vumbarete_judge_rows(file: &[u8], index: &[u8]) -> PlainTable
     ensures { λ r. ⌜ r ≡ rowsJudged (now (file .entry)) (now (index .entry)) (openedOf (now (file .entry)) (now (index .entry)) mostRows) ⌝ }
 {
-    let opened = table::opening::open_table(file, index);
+    let opened = opening::open_table(file, index);
     let answer = opened.answer;
     match answer {
         Answer::Accepted => {
@@ -367,7 +367,7 @@ pub extern "C" fn vumbarete_value(
 ) -> PlainValue
     ensures { λ r. ⌜ r ≡ plainValue (valueIn (now (file .entry)) (now (index .entry)) row column) ⌝ }
 {
-    let opened = table::opening::open_table(file, index);
+    let opened = opening::open_table(file, index);
     let answer = opened.answer;
     match answer {
         Answer::Accepted => {
@@ -388,7 +388,7 @@ pub extern "C" fn vumbarete_rectangle(
 ) -> PlainRectangle
     ensures { λ r. ⌜ r ≡ plainRectangle (rectangleIn (now (file .entry)) (now (index .entry)) row column) ⌝ }
 {
-    let opened = table::opening::open_table(file, index);
+    let opened = opening::open_table(file, index);
     let answer = opened.answer;
     match answer {
         Answer::Accepted => {

@@ -41,18 +41,19 @@ use Rattle.header.specs.Judge.{headOf, columnCount, headerRefusal}
 use Rattle.header.specs.Steps.{startsAt, stepFrom, stepOf}
 use Rattle.header.specs.Refusals as header
 use Rattle.header.proofs.RefusedExactly as header-proofs
-use Rattle.table.specs.declared.Table.{Table}
+use Rattle.opening.specs.declared.Table.{Table}
 use Rattle.table.specs.declared.Reach.{Reach}
 use Rattle.table.specs.declared.Reach.the-variants as reached
 use Rattle.table.specs.declared.Row.{Row}
 use Rattle.table.specs.declared.Row.the-variants as row
 use Rattle.table.specs.declared.Value.{Value}
 use Rattle.table.specs.declared.Value.the-variants as value
-use Rattle.table.specs.Opening.{needsIndex, openedOf}
+use Rattle.opening.specs.Opening.{needsIndex, openedOf}
 use Rattle.table.specs.Rows.{columnAt, columnsOf, noSuchRow, noSuchColumn, outside, boundOf, reach, idAt, idRefusal, usedUp, columnPlace, fieldsRefusal, placeRefusal, rowRefusal, rowOf}
 use Rattle.table.specs.Values.{tripletOfRead, byType, shown, inRow, valueOf}
+use Rattle.opening.specs.Words as opening-words
 use Rattle.table.specs.Words as table
-use Rattle.table.proofs.OpenedExactly as opening
+use Rattle.opening.proofs.OpenedExactly as opening
 use Rattle.bounds.specs.Bounds.{Coordinates, boundsOf, refused}
 use Rattle.bounds.proofs.BoundsExactly as bounds
 use Rattle.rectangle.specs.Rectangles.{rectangleOf, refusedWith}
@@ -199,14 +200,14 @@ step-numbers file place q e =
     let w = header-proofs.refused-exactly file (q .number) (q .place) .0 (v, λ z. eqb-false (r .number) 0 c (ap (λ (x : Refusal). x .number) v ∙ z)) in
     inr (header-named file (w .test) (q .number) (q .place) (w .fails)))
 
-opening-named : (file index : List ℕ) (most : ℕ) (x : table.Test) (n p : ℕ) → table.FailsAt file index most x n p → Among ofOpening n
-opening-named file index most table.header-accepted n p w = also ofHeader ofOpening n refl (header-named file (w .test) n p (w .fails))
-opening-named file index most table.index-there n p w = one-of ofOpening n 8 (w .0) refl
-opening-named file index most table.rows-few n p w = one-of ofOpening n 15 (w .0) refl
-opening-named file index most table.whole-rows n p w = one-of ofOpening n 7 (w .0) refl
-opening-named file index most table.index-head n p w = one-of ofOpening n 8 (w .0) refl
-opening-named file index most table.entries n p w = one-of ofOpening n 8 (w .0) refl
-opening-named file index most table.last-end n p w = one-of ofOpening n 8 (w .0) refl
+opening-named : (file index : List ℕ) (most : ℕ) (x : opening-words.Test) (n p : ℕ) → opening-words.FailsAt file index most x n p → Among ofOpening n
+opening-named file index most opening-words.header-accepted n p w = also ofHeader ofOpening n refl (header-named file (w .test) n p (w .fails))
+opening-named file index most opening-words.index-there n p w = one-of ofOpening n 8 (w .0) refl
+opening-named file index most opening-words.rows-few n p w = one-of ofOpening n 15 (w .0) refl
+opening-named file index most opening-words.whole-rows n p w = one-of ofOpening n 7 (w .0) refl
+opening-named file index most opening-words.index-head n p w = one-of ofOpening n 8 (w .0) refl
+opening-named file index most opening-words.entries n p w = one-of ofOpening n 8 (w .0) refl
+opening-named file index most opening-words.last-end n p w = one-of ofOpening n 8 (w .0) refl
 
 pub opening-numbers : (file index : List ℕ) (most : ℕ) (q : Refusal) → openedOf file index most .answer ≡ answer.Refused q → Among ofOpening (q .number)
 opening-numbers file index most q e =

@@ -11,7 +11,7 @@ use Rattle.triplet.proofs.RoundTrip.{row-round-trip}
 use Rattle.triplet.proofs.OtherBytes.{no-other-byte}
 use Rattle.header.proofs.AcceptedExactly as accepted
 use Rattle.header.proofs.RefusedExactly as refused
-use Rattle.table.proofs.OpenedExactly as opening
+use Rattle.opening.proofs.OpenedExactly as opening
 use Rattle.table.proofs.RowExactly.{row-of-exactly}
 use Rattle.table.proofs.RowRefusedExactly.{row-of-refused-exactly}
 use Rattle.table.proofs.ValueOfRow.{value-of-row}

@@ -32,12 +32,13 @@ use Rattle.header.specs.declared.Step.the-variants as step
 use Rattle.header.specs.Steps.{stepOf, columnOf}
 use Rattle.header.specs.Words.{AcceptedHeader}
 use Rattle.header.specs.Refusals as header
-use Rattle.table.specs.declared.Table.{Table}
+use Rattle.opening.specs.declared.Table.{Table}
 use Rattle.table.specs.declared.Row.the-variants as row
 use Rattle.table.specs.declared.Value.the-variants as value
-use Rattle.table.specs.Opening.{openedOf}
+use Rattle.opening.specs.Opening.{openedOf}
 use Rattle.table.specs.Rows.{columnAt, columnPlace, boundOf, rowOf}
 use Rattle.table.specs.Values.{shown, valueOf}
+use Rattle.opening.specs.Words as opening
 use Rattle.table.specs.Words as table
 use Rattle.bounds.specs.Bounds.{Rectangle, Coordinates, boundsOf, refused}
 use Rattle.rectangle.specs.Rectangles.{rectangleOf, refusedWith}
@@ -149,32 +150,32 @@ pub record HeaderMeans (file : List ℕ) : Type 0 where
 
 -- a table and its index; what an opened table is
 abbrev pub tableWith : List ℕ → ℕ → Table
-tableWith file n = record { layout = table.layoutOf file; rows = n }
+tableWith file n = record { layout = opening.layoutOf file; rows = n }
 
 pub record TableMeans (file index : List ℕ) (most : ℕ) : Type 0 where
-  pub opened : (openedOf file index most .answer ≡ answer.Accepted) ↔ ((h : Reading) × (n : ℕ) × table.Opens file index most h n)
-  pub one-table : (h k : Reading) (n m : ℕ) → table.Opens file index most h n → table.Opens file index most k m → (h ≡ k) × (n ≡ m)
-  pub as-opened : (h : Reading) (n : ℕ) → table.Opens file index most h n → openedOf file index most .table ≡ tableWith file n
-  pub refused : (n p : ℕ) → (openedOf file index most .answer ≡ answer.Refused (refusal n p)) ↔ table.RefusedWith file index most n p
+  pub opened : (openedOf file index most .answer ≡ answer.Accepted) ↔ ((h : Reading) × (n : ℕ) × opening.Opens file index most h n)
+  pub one-table : (h k : Reading) (n m : ℕ) → opening.Opens file index most h n → opening.Opens file index most k m → (h ≡ k) × (n ≡ m)
+  pub as-opened : (h : Reading) (n : ℕ) → opening.Opens file index most h n → openedOf file index most .table ≡ tableWith file n
+  pub refused : (n p : ℕ) → (openedOf file index most .answer ≡ answer.Refused (refusal n p)) ↔ opening.RefusedWith file index most n p
 
 -- row i of an opened table of n rows, and its values: each is what the row's own bytes show, whatever else stands in the file
 abbrev pub rowStart : List ℕ → List ℕ → ℕ → ℕ
-rowStart file index i = boundOf (table.layoutOf file) index (pred i)
+rowStart file index i = boundOf (opening.layoutOf file) index (pred i)
 
 abbrev pub rowEnd : List ℕ → List ℕ → ℕ → ℕ
-rowEnd file index i = boundOf (table.layoutOf file) index i
+rowEnd file index i = boundOf (opening.layoutOf file) index i
 
 abbrev pub RowRight : List ℕ → List ℕ → ℕ → Type 0
-RowRight file index i = table.RowRight file (table.layoutOf file) (rowStart file index i) (rowEnd file index i) i
+RowRight file index i = table.RowRight file (opening.layoutOf file) (rowStart file index i) (rowEnd file index i) i
 
 pub record RowMeans (file index : List ℕ) (n i : ℕ) : Type 0 where
   pub accepted : (rowOf file index (tableWith file n) i ≡ row.Between (rowStart file index i) (rowEnd file index i)) ↔ RowRight file index i
   pub refused : (m p : ℕ) → (rowOf file index (tableWith file n) i ≡ row.Refused (refusal m p))
-      ↔ table.RowRefused file (table.layoutOf file) (rowStart file index i) (rowEnd file index i) i m p
-  pub values : RowRight file index i → (k : ℕ) → In (table.layoutOf file .columns) k
+      ↔ table.RowRefused file (opening.layoutOf file) (rowStart file index i) (rowEnd file index i) i m p
+  pub values : RowRight file index i → (k : ℕ) → In (opening.layoutOf file .columns) k
       → (s : List ℕ) → table.SameRow file s (rowStart file index i) (rowEnd file index i)
       → valueOf file index (tableWith file n) i k
-      ≡ shown (table.layoutOf file .order) s (columnAt (table.layoutOf file) k) (columnPlace s (table.layoutOf file) (rowStart file index i) (rowEnd file index i) k) (rowEnd file index i)
+      ≡ shown (opening.layoutOf file .order) s (columnAt (opening.layoutOf file) k) (columnPlace s (opening.layoutOf file) (rowStart file index i) (rowEnd file index i) k) (rowEnd file index i)
 
 -- triplets in a byte order: read exactly, written exactly, "written and read back is the same", and no other byte of the row changes
 pub record TripletMeans (o : Order) : Type 0 where
@@ -216,7 +217,7 @@ pub record DirectoryMeans (z : Sizes) (cnxRead : Bool) (f : Files) (lengths : Li
 pub record Demand2 : Type 0 where
   pub headers : (file : List ℕ) → HeaderMeans file
   pub tables : (file index : List ℕ) (most : ℕ) → TableMeans file index most
-  pub rows : (file index : List ℕ) (most : ℕ) (h : Reading) (n : ℕ) → table.Opens file index most h n → (i : ℕ) → In n i → RowMeans file index n i
+  pub rows : (file index : List ℕ) (most : ℕ) (h : Reading) (n : ℕ) → opening.Opens file index most h n → (i : ℕ) → In n i → RowMeans file index n i
   pub triplets : (o : Order) → TripletMeans o
   pub rectangles : (file index : List ℕ) (t : Table) (i k : ℕ) → RectangleMeans file index t i k
   pub loading : (f : Files) (most : ℕ) (lengths : List ℕ) → LoadMeans f most lengths

@@ -14,7 +14,7 @@ use Rattle.tile.specs.declared.Verdict.the-variants as verdict
 use Rattle.tile.specs.Check.{verdictOf}
 use Rattle.tile.proofs.AcceptedExactly as check
 use Rattle.tile.proofs.RefusedExactly.{refused, words-refused}
-use Rattle.table.specs.declared.Table.{Table}
+use Rattle.opening.specs.declared.Table.{Table}
 use Rattle.load.specs.declared.TableName.{TableName}
 use Rattle.load.specs.declared.TableName.the-variants.{Edg, Fac, Rng, Cnd}
 use Rattle.load.specs.declared.Counts.{Counts}

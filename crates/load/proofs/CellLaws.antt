@@ -21,7 +21,7 @@ use Rattle.number.specs.declared.Order.{Order}
 use Rattle.field.specs.Fields.{letterOf}
 use Rattle.header.specs.declared.Layout.{Layout}
 use Rattle.header.specs.Judge.{mostColumns}
-use Rattle.table.specs.Opening.{mostRows}
+use Rattle.opening.specs.Opening.{mostRows}
 use Rattle.table.specs.Rows.{outside, noSuchColumn, columnsOf, columnAt, boundOf, slotOf, keptFor, columnPlace, placeRefusal, fieldsRefusal, rowRefusal, rowJudged}
 use Rattle.table.specs.Plans.{boundBy, planOf, plannedPlaces}
 use Rattle.table.proofs.RowLaws.{such, place-fine}

@@ -26,14 +26,15 @@ use Rattle.header.specs.Words as read
 use Rattle.header.proofs.AcceptedExactly.{accepted-once}
 use Rattle.header.proofs.LayoutMeans.{laid-out}
 use Rattle.header.proofs.ColumnOfName.{Named, column-of-name, column-of-name-only}
-use Rattle.table.specs.declared.Table.{Table}
-use Rattle.table.specs.Opening.{mostRows, tableRefusal}
+use Rattle.opening.specs.declared.Table.{Table}
+use Rattle.opening.specs.Opening.{mostRows, tableRefusal}
 use Rattle.table.specs.Rows as rows
 use Rattle.table.specs.Rows.{noSuchColumn, columnAt, rowJudged, rowsRefusal}
+use Rattle.opening.specs.Words as opening
 use Rattle.table.specs.Words as table
 use Rattle.table.proofs.RowLaws.{such}
-use Rattle.table.proofs.OpeningInOrder.{refused-exactly-when}
-use Rattle.table.proofs.OpenedExactly.{opened-exactly, opened-table, opened-rows, in-layout}
+use Rattle.opening.proofs.OpeningInOrder.{refused-exactly-when}
+use Rattle.opening.proofs.OpenedExactly.{opened-exactly, opened-table, opened-rows, in-layout}
 use Rattle.table.proofs.RowExactly.{there, columns-all, inside-file, row-exactly}
 use Rattle.table.proofs.RowRefusedExactly.{row-refused-exactly}
 use Rattle.load.specs.declared.TableName.{TableName}
@@ -184,7 +185,7 @@ module _ (f : Files) (most : ℕ) where
   rows-at-place = ten (λ k. atPlace (rowsFor tables) k ≡ tableIn tables (tableAt k) .rows) refl refl refl refl refl refl refl refl refl refl
 
   -- ---- a table that opens
-  module _ (n : TableName) (h : Reading) (m : ℕ) (o : table.Opens (fileOf f n) (indexOf f n) most h m) where
+  module _ (n : TableName) (h : Reading) (m : ℕ) (o : opening.Opens (fileOf f n) (indexOf f n) most h m) where
     abbrev file : List ℕ
     file = fileOf f n
 
@@ -227,7 +228,7 @@ module _ (f : Files) (most : ℕ) where
       fits-there : (fitting l k c ≡ 0 → ⊥) → Named h name c × TypeRight k (read.columnAt h c)
       fits-there z =
           let w = fitting-some l k c z in
-          let p = such (table.layoutOf file .columns) c (rw (columns-all file index most h m o) at (w .0)) in
+          let p = such (opening.layoutOf file .columns) c (rw (columns-all file index most h m o) at (w .0)) in
           let d : Named h name c = ⊎-elim (λ q. absurd (omega (arith, q .0, p .0))) (λ q. q) (column-of-name file h (o .header) name) in
           (d, type-told c (d .0) .0 (w .1))
 
@@ -282,7 +283,7 @@ module _ (f : Files) (most : ℕ) where
   -- ---- opening
   opening-exactly : (n : TableName) → Exactly (opening f most n) ((h : Reading) × (rows : ℕ) × OpensWith f most n h rows) (FailsWith f most [] (opened n))
   opening-exactly n =
-      exactly-of n (tableRefusal (fileOf f n) (indexOf f n) most) ((h : Reading) × (rows : ℕ) × OpensWith f most n h rows) (table.RefusedWith (fileOf f n) (indexOf f n) most)
+      exactly-of n (tableRefusal (fileOf f n) (indexOf f n) most) ((h : Reading) × (rows : ℕ) × OpensWith f most n h rows) (opening.RefusedWith (fileOf f n) (indexOf f n) most)
       (opened-exactly (fileOf f n) (indexOf f n) most) (refused-exactly-when (fileOf f n) (indexOf f n) most)
 
   -- ---- all four open

@@ -11,8 +11,8 @@ use Rattle.refusal.specs.Order.{fine, firstOf}
 use Rattle.refusal.proofs.OrderLaws.{first-passes, first-within}
 use Rattle.header.specs.Judge.{headerRefusal, answered}
 use Rattle.header.specs.Layouts.{headerOf}
-use Rattle.table.specs.Opening.{openRefusal, tableRefusal, openedOf}
-use Rattle.table.specs.declared.Opened.{Opened}
+use Rattle.opening.specs.Opening.{openRefusal, tableRefusal, openedOf}
+use Rattle.opening.specs.declared.Opened.{Opened}
 use Rattle.load.specs.declared.TableName.the-variants.{Edg, Fac, Rng, Cnd}
 use Rattle.load.specs.declared.Finding.{Finding}
 use Rattle.load.specs.Sources.{Files, tablesOf}

@@ -12,10 +12,10 @@ use Rattle.laws.proofs.LowestLaws.{bool-cases, lowest-zero}
 use Rattle.refusal.specs.Order.{refuses}
 use Rattle.refusal.proofs.OrderLaws.{located-passes, all-passed}
 use Rattle.header.specs.declared.Layout.{Layout}
-use Rattle.table.specs.declared.Table.{Table}
-use Rattle.table.specs.Opening.{mostRows, tableRefusal, openedOf}
+use Rattle.opening.specs.declared.Table.{Table}
+use Rattle.opening.specs.Opening.{mostRows, tableRefusal, openedOf}
 use Rattle.table.specs.Rows.{rowsOf, columnAt, noSuchColumn, rowJudged, rowsRefusal}
-use Rattle.table.proofs.OpenedExactly.{opened-exactly, opened-table}
+use Rattle.opening.proofs.OpenedExactly.{opened-exactly, opened-table}
 use Rattle.load.specs.declared.TableName.{TableName}
 use Rattle.load.specs.declared.TableName.the-variants.{Edg, Fac, Rng, Cnd}
 use Rattle.load.specs.declared.Tables.{Tables}

@@ -22,13 +22,14 @@ use Rattle.triplet.specs.Triplet.{tripletOf}
 use Rattle.header.specs.declared.ColumnLayout.{ColumnLayout}
 use Rattle.header.specs.declared.Layout.{Layout}
 use Rattle.header.specs.Steps.{columnOf}
-use Rattle.table.specs.declared.Table.{Table}
+use Rattle.opening.specs.declared.Table.{Table}
 use Rattle.table.specs.declared.Value.{Value}
 use Rattle.table.specs.declared.Value.the-variants as val
 use Rattle.table.specs.Rows.{columnAt, boundOf, columnPlace}
 use Rattle.table.specs.Values.{integerOf, tripletOfRead, byType, shown, valueOf}
-use Rattle.table.specs.Words.{layoutOf, Opens, RowRight, SameRow}
-use Rattle.table.proofs.OpenedExactly.{opened-table}
+use Rattle.opening.specs.Words.{layoutOf, Opens}
+use Rattle.table.specs.Words.{RowRight, SameRow}
+use Rattle.opening.proofs.OpenedExactly.{opened-table}
 use Rattle.table.proofs.RowExactly.{inside-file}
 use Rattle.table.proofs.ValueOfRow.{value-of-row}
 use Rattle.cell.specs.Numbers.{natural, internalId, numberIn}

@@ -11,8 +11,8 @@ use Rattle.refusal.specs.declared.Refusal.{Refusal}
 use Rattle.refusal.specs.Order.{refusal, fine, refusedIf, located, refuses}
 use Rattle.header.specs.declared.Answer.{Answer}
 use Rattle.header.specs.declared.Answer.the-variants as answer
-use Rattle.table.specs.declared.Table.{Table}
-use Rattle.table.specs.Opening.{mostRows, tableRefusal}
+use Rattle.opening.specs.declared.Table.{Table}
+use Rattle.opening.specs.Opening.{mostRows, tableRefusal}
 use Rattle.table.specs.Rows.{rowJudged, rowsRefusal}
 use Rattle.load.specs.Sources.{Files, fileOf, indexOf, tableIn, tablesOf, tableAt, columnsFor, atPlace, rowsFor}
 use Rattle.load.specs.Cells.{cellOf}

@@ -9,8 +9,8 @@ use Rattle.field.specs.declared.FieldType.{FieldType}
 use Rattle.field.specs.Fields.{isInteger, isTriplet}
 use Rattle.header.specs.declared.Layout.{Layout}
 use Rattle.header.specs.Steps.{columnOf}
-use Rattle.table.specs.declared.Table.{Table}
-use Rattle.table.specs.Opening.{openedOf}
+use Rattle.opening.specs.declared.Table.{Table}
+use Rattle.opening.specs.Opening.{openedOf}
 use Rattle.table.specs.Rows.{columnAt, noSuchColumn}
 use Rattle.load.specs.declared.TableName.{TableName}
 use Rattle.load.specs.declared.TableName.the-variants.{Edg, Fac, Rng, Cnd}

@@ -16,6 +16,7 @@ use Rattle.header.specs.Words.{columnAt, AcceptedHeader}
 use Rattle.table.specs.declared.Value.{Value}
 use Rattle.table.specs.declared.Value.the-variants.{Short, ShortNull, Integer, IntegerNull, Float, FloatNull, Double, DoubleNull, Triplet, Text, Date, Coordinates, Empty, Refused}
 use Rattle.table.specs.Rows.{boundOf}
+use Rattle.opening.specs.Words as opening
 use Rattle.table.specs.Words as table
 use Rattle.load.specs.Sources.{Files, fileOf, indexOf, nameAt, tableAt, atPlace}
 use Rattle.load.specs.Load.{finding}
@@ -53,11 +54,11 @@ loaded (Refused q) = 0
 
 -- "Loading opens the four tables in turn": table n opens with a reading of its header and so many rows
 abbrev pub OpensWith : Files → ℕ → TableName → Reading → ℕ → Type 0
-OpensWith f most n h rows = table.Opens (fileOf f n) (indexOf f n) most h rows
+OpensWith f most n h rows = opening.Opens (fileOf f n) (indexOf f n) most h rows
 
 -- the rows that table n says to have
 abbrev pub rowsOf : Files → TableName → ℕ
-rowsOf f n = table.rowsIn (fileOf f n) (indexOf f n)
+rowsOf f n = opening.rowsIn (fileOf f n) (indexOf f n)
 
 -- "right_face, left_face, right_edge, left_edge (I or K); .. first_edge (I or K). Others listed are I."
 abbrev pub TakesTriplets : ℕ → Type 0
@@ -81,7 +82,7 @@ RoomFor f lengths k = rowsOf f (tableAt k) ≤ atPlace lengths k
 
 -- where row i of table n starts and ends
 abbrev pub layoutIn : Files → TableName → Layout
-layoutIn f n = table.layoutOf (fileOf f n)
+layoutIn f n = opening.layoutOf (fileOf f n)
 
 abbrev pub rowEnd : Files → TableName → ℕ → ℕ
 rowEnd f n i = boundOf (layoutIn f n) (indexOf f n) i
@@ -151,7 +152,7 @@ IsEmpty f n q = (rowsOf f n ≡ 0) × (finding n (refusal 15 0) ≡ q)
 
 -- this test fails, and q is found: the table that it speaks of, the number, the place
 abbrev pub FailsWith : Files → ℕ → List ℕ → Test → Finding → Type 0
-FailsWith f most lengths (opened n) q = (n ≡ q .table) × table.RefusedWith (fileOf f n) (indexOf f n) most (q .refusal .number) (q .refusal .place)
+FailsWith f most lengths (opened n) q = (n ≡ q .table) × opening.RefusedWith (fileOf f n) (indexOf f n) most (q .refusal .number) (q .refusal .place)
 FailsWith f most lengths columns-there q = (k : ℕ) × LowestFailing 10 (ColumnThere f) k × (finding (tableAt k) (refusal 17 k) ≡ q)
 FailsWith f most lengths faces-some q = IsEmpty f Fac q
 FailsWith f most lengths rings-some q = IsEmpty f Rng q

@@ -2,14 +2,14 @@
 // all rows, as plain numbers, so that a row costs its own bytes and no copy of the layout.
 use header::Layout;
 use number::Order;
-use table::Table;
+use opening::Table;
 ghost use mathlib.Core.Path.{_≡_};
 ghost use mathlib.Core.Bool.{false};
 ghost use Prim.Native.Nat.{_≤_, _<_};
 ghost use lib.ListN.{length};
 ghost use Rattle.laws.specs.Buffer.{front};
 ghost use Rattle.header.specs.Judge.{mostColumns};
-ghost use Rattle.table.specs.Opening.{mostRows};
+ghost use Rattle.opening.specs.Opening.{mostRows};
 ghost use Rattle.table.specs.Rows.{noSuchColumn, slotOf, keptFor};
 ghost use Rattle.load.specs.Sources.{atPlace};
 ghost use Rattle.load.specs.Cells.{cellOf, EdgeColumns, SixThere};

@@ -4,7 +4,7 @@ mod fitting;
 
 use header::Answer;
 use refusal::Refusal;
-use table::Table;
+use opening::Table;
 ghost use mathlib.Core.Path.{_≡_};
 ghost use Rattle.load.specs.declared.TableName.the-variants.{Edg, Fac, Rng, Cnd};
 ghost use Rattle.load.specs.Sources.{files};
@@ -84,10 +84,10 @@ fn refusal_of(answer: Answer) -> Refusal
 fn open_all(edg: &[u8], edx: &[u8], fac: &[u8], fax: &[u8], rng: &[u8], rnx: &[u8], cnd: &[u8], cnx: &[u8], most: usize) -> OpenedTables
     ensures { λ r. ⌜ r ≡ openedAll (files (now (edg .entry)) (now (edx .entry)) (now (fac .entry)) (now (fax .entry)) (now (rng .entry)) (now (rnx .entry)) (now (cnd .entry)) (now (cnx .entry))) most ⌝ }
 {
-    let e = table::opening::open_within(edg, edx, most);
-    let f = table::opening::open_within(fac, fax, most);
-    let g = table::opening::open_within(rng, rnx, most);
-    let h = table::opening::open_within(cnd, cnx, most);
+    let e = opening::open_within(edg, edx, most);
+    let f = opening::open_within(fac, fax, most);
+    let g = opening::open_within(rng, rnx, most);
+    let h = opening::open_within(cnd, cnx, most);
     let of_edg = e.answer;
     let a = find(TableName::Edg, refusal_of(of_edg));
     let of_fac = f.answer;

@@ -24,12 +24,13 @@ use Rattle.bounds.proofs.ReadLaws.{count-exact}
 use Rattle.header.specs.declared.ColumnLayout.{ColumnLayout}
 use Rattle.header.specs.declared.Layout.{Layout}
 use Rattle.header.specs.Words as read
-use Rattle.table.specs.declared.Table.{Table}
+use Rattle.opening.specs.declared.Table.{Table}
 use Rattle.table.specs.declared.Value.{Value}
 use Rattle.table.specs.declared.Value.the-variants as value
 use Rattle.table.specs.Rows.{columnAt, boundOf, columnPlace}
 use Rattle.table.specs.Values.{elementsStart, elementsBytes, shown, valueOf, partOf}
-use Rattle.table.specs.Words.{layoutOf, Opens, RowRight, PartInside}
+use Rattle.opening.specs.Words.{layoutOf, Opens}
+use Rattle.table.specs.Words.{RowRight, PartInside}
 use Rattle.table.proofs.RowExactly.{means, inside-file}
 use Rattle.table.proofs.ValueOfRow.{value-of-row, value-inside}
 use Rattle.rectangle.specs.Words.{typeWith, coordinatesSaid, line}

@@ -31,14 +31,14 @@ use Rattle.bounds.proofs.BoundsExactly as exactly
 use Rattle.header.specs.declared.ColumnLayout.{ColumnLayout}
 use Rattle.header.specs.declared.Layout.{Layout}
 use Rattle.header.specs.Judge.{mostColumns}
-use Rattle.table.specs.declared.Table.{Table}
+use Rattle.opening.specs.declared.Table.{Table}
 use Rattle.table.specs.declared.Reach.{Reach}
 use Rattle.table.specs.declared.Reach.the-variants as reached
 use Rattle.table.specs.declared.Row.{Row}
 use Rattle.table.specs.declared.Row.the-variants as row
 use Rattle.table.specs.declared.Value.{Value}
 use Rattle.table.specs.declared.Value.the-variants as value
-use Rattle.table.specs.Opening.{needsIndex}
+use Rattle.opening.specs.Opening.{needsIndex}
 use Rattle.table.specs.Rows.{rowsOf, columnsOf, noSuch, noSuchRow, noSuchColumn, columnAt, boundOf, columnPlace, outside, reach, idAt, idRefusal, usedUp, fieldsRefusal, placeRefusal, rowRefusal, rowOf}
 use Rattle.table.specs.Values.{tripletOfRead, byType as valueByType, shown, inRow, valueOf, partOf}
 use Rattle.table.proofs.RowExactly.{there}

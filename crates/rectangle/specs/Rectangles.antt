@@ -14,7 +14,7 @@ use Rattle.bounds.specs.declared.Parts.the-variants.{Two, Three}
 use Rattle.bounds.specs.Bounds.{Rectangle, Bounds, within, refused, coordinates, boundsOf, rectangle32, rectangle64}
 use Rattle.header.specs.declared.Layout.{Layout}
 use Rattle.header.specs.Judge.{mostColumns}
-use Rattle.table.specs.declared.Table.{Table}
+use Rattle.opening.specs.declared.Table.{Table}
 use Rattle.table.specs.declared.Value.{Value}
 use Rattle.table.specs.declared.Value.the-variants as value
 use Rattle.table.specs.Rows.{columnAt, noSuch}

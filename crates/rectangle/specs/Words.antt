@@ -16,7 +16,7 @@ use Rattle.bounds.specs.declared.Parts.the-variants.{Two, Three}
 use Rattle.bounds.specs.Bounds.{Rectangle, Coordinates, coordinates, count, unfit, notFiniteOrNone}
 use Rattle.bounds.specs.Words as bounds
 use Rattle.header.specs.declared.ColumnLayout.{ColumnLayout}
-use Rattle.table.specs.declared.Table.{Table}
+use Rattle.opening.specs.declared.Table.{Table}
 use Rattle.table.specs.declared.Row.the-variants.{Between, Refused}
 use Rattle.table.specs.Rows.{rowsOf, columnsOf, columnAt, rowOf}
 use Rattle.table.specs.Values.{valueOf, partOf}

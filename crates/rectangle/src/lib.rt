@@ -9,7 +9,7 @@ use header::Layout;
 use header::MOST_COLUMNS;
 use number::Order;
 use refusal::Refusal;
-use table::Table;
+use opening::Table;
 use table::Value;
 ghost use mathlib.Core.Path.{_≡_};
 ghost use Rattle.bounds.specs.Bounds.{bounds32, bounds64};

@@ -1,23 +1,19 @@
 -- The bytes of a field whose count must be 1: those of its type, and so within its row. Assumes nothing.
-use mathlib.Core.Path.{_≡_, refl, sym, ap, subst, _∙_}
-use mathlib.Core.Logic.{_⊎_, inl, inr, ⊎-elim}
-use mathlib.Core.Bool.{Bool, true, false, true≢false}
-use mathlib.Core.List.{List, [], _∷_}
-use Prim.Native.Nat.{ℕ, suc, _+_, _*_, _≤_, _<_}
+use mathlib.Core.Path.{_≡_, sym, ap, subst, _∙_}
+use mathlib.Core.Logic.{inl, ⊎-elim}
+use mathlib.Core.Bool.{true, false, true≢false}
+use mathlib.Core.List.{List}
+use Prim.Native.Nat.{ℕ, _+_, _*_, _≤_}
 use native.Mathlib.Omega.{arith}
 use borrow.Author.Tests.{eq-eqb, eqb-true}
-use lib.Dec.{eqb}
-use lib.ListN.{length}
 use Rattle.laws.specs.Lowest.{In}
 use Rattle.laws.proofs.LowestLaws.{bool-cases}
-use Rattle.laws.proofs.TestLaws.{clash}
 use Rattle.number.specs.declared.Order.{Order}
 use Rattle.number.specs.Bytes.{number}
 use Rattle.grammar.specs.Words as words
 use Rattle.grammar.specs.Words.{Reading, Numeral}
 use Rattle.field.specs.declared.FieldType.{FieldType}
 use Rattle.field.specs.declared.FieldType.the-variants as type
-use Rattle.field.specs.declared.Lookup.the-variants.{Is}
 use Rattle.field.specs.Letters.{letterK}
 use Rattle.field.specs.Fields.{letterOf, typeOf, widthOf, starOf, countRight}
 use Rattle.field.proofs.TableRule.{type-of-letter, letter-of-type}
@@ -25,11 +21,12 @@ use Rattle.header.specs.declared.ColumnLayout.{ColumnLayout}
 use Rattle.header.specs.declared.Layout.{Layout}
 use Rattle.header.specs.Places.{decimal}
 use Rattle.header.specs.Words.{columnAt, ColumnSound, AcceptedHeader}
-use Rattle.header.specs.LayoutWords.{Varies, layoutAt, ColumnLaidOut, LaidOut}
+use Rattle.header.specs.LayoutWords.{Varies, layoutAt, ColumnLaidOut}
 use Rattle.header.proofs.ColumnsJudged.{numeral-not-star}
 use Rattle.header.proofs.LayoutMeans.{laid-out}
-use Rattle.table.specs.Words.{layoutOf, TripletEnds, StarEnds, FixedEnds, FieldEnds}
-use Rattle.table.proofs.OpenedExactly.{in-reading}
+use Rattle.opening.specs.Words.{layoutOf}
+use Rattle.table.specs.Words.{FieldEnds}
+use Rattle.opening.proofs.OpenedExactly.{in-reading}
 use Rattle.table.proofs.FieldExactly.{triplet-kind}
 
 -- a column of this type has the count 1, and so the bytes of one element

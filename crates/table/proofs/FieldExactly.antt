@@ -1,16 +1,16 @@
 -- Where a field ends, in words, by its type; and that the walk over a row's columns finds their places exactly where the fields follow
 -- one another so. Assumes nothing.
-use mathlib.Core.Path.{_≡_, refl, sym, ap, subst, _∙_}
-use mathlib.Core.Logic.{_↔_, by-cases, _⊎_, inl, inr, ⊎-elim}
-use mathlib.Core.Bool.{Bool, true, false, true≢false}
+use mathlib.Core.Path.{_≡_, refl, sym, ap, _∙_}
+use mathlib.Core.Logic.{_↔_, by-cases, inl, inr, ⊎-elim}
+use mathlib.Core.Bool.{true, false, true≢false}
 use mathlib.Core.List.{List}
-use Prim.Native.Nat.{ℕ, zero, suc, pred, _+_, _-_, _*_, _≤_, _<_}
+use Prim.Native.Nat.{ℕ, zero, suc, _+_, _-_, _*_, _≤_}
 use native.Mathlib.Decide.{decLe}
 use native.Mathlib.Omega.{arith}
-use borrow.Author.Tests.{leb-true, leb-false, ltb-true, ltb-false, le-leb, lt-leb, lt-ltb, le-ltb, eqb-true, eq-eqb}
-use lib.Dec.{eqb, ltb, leb}
-use lib.ListN.{length, take, drop, length-take, length-drop}
-use Rattle.laws.specs.Lowest.{In, Each}
+use borrow.Author.Tests.{leb-true, ltb-true, ltb-false, le-leb, eqb-true}
+use lib.Dec.{ltb, leb}
+use lib.ListN.{length, take, drop}
+use Rattle.laws.specs.Lowest.{In}
 use Rattle.laws.proofs.LowestLaws.{bool-cases}
 use Rattle.laws.proofs.TestLaws.{clash}
 use Rattle.number.specs.declared.Order.{Order}
@@ -33,7 +33,7 @@ use Rattle.header.specs.LayoutWords.{layoutAt}
 use Rattle.table.specs.declared.Reach.{Reach}
 use Rattle.table.specs.declared.Reach.the-variants.{At, Short, Cut}
 use Rattle.table.specs.Rows.{plainEnd, starEnd, pastTriplet, tripletEnd, fieldEnd, onward, columnAt, reach, placeOf, placeOfColumn}
-use Rattle.table.specs.Words.{TripletEnds, StarEnds, FixedEnds, FieldEnds, Fields, Begun}
+use Rattle.table.specs.Words.{FieldEnds, Fields, Begun}
 use Rattle.table.proofs.WalkLaws.{reach-within}
 
 pub triplet-kind : (t : FieldType) → (isTriplet t ≡ true) ↔ (t ≡ type.Triplet)

@@ -1,6 +1,5 @@
 -- Where a field ends: within its row, and without wrapping. Assumes nothing.
 use mathlib.Core.Path.{_≡_, refl}
-use mathlib.Core.Bool.{Bool, true, false}
 use mathlib.Core.List.{List}
 use Prim.Native.Nat.{ℕ, _+_, _-_, _*_, _≤_, _<_}
 use native.Mathlib.Omega.{arith}
@@ -18,8 +17,8 @@ use Rattle.triplet.specs.declared.Triplet.the-variants as triplet
 use Rattle.triplet.specs.Triplet.{tripletOf}
 use Rattle.triplet.proofs.OnlyItsBytes.{within}
 use Rattle.header.specs.declared.ColumnLayout.{ColumnLayout}
-use Rattle.table.specs.declared.Reach.the-variants.{At, Short, Cut}
-use Rattle.table.specs.Opening.{mostRows}
+use Rattle.table.specs.declared.Reach.the-variants.{At, Short}
+use Rattle.opening.specs.Opening.{mostRows}
 use Rattle.table.specs.Rows.{plainEnd, starEnd, pastTriplet, tripletEnd, fieldEnd}
 
 -- a count of four bytes times an element's width

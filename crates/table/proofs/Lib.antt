@@ -1,12 +1,9 @@
 pub mod FieldLaws
 pub mod WalkLaws
 pub mod RowLaws
-pub mod OpeningInOrder
-pub mod OpenedExactly
 pub mod RowsPartition
 pub mod SlotLaws
 pub mod FoundLaws
-pub mod OpeningLaws
 pub mod FieldExactly
 pub mod RowExactly
 pub mod ColumnBytes

@@ -25,7 +25,7 @@ use Rattle.header.specs.declared.Layout.{Layout}
 use Rattle.header.specs.Judge.{mostColumns}
 use Rattle.table.specs.declared.Reach.{Reach}
 use Rattle.table.specs.declared.Reach.the-variants.{At}
-use Rattle.table.specs.Opening.{endAt}
+use Rattle.opening.specs.Opening.{endAt}
 use Rattle.table.specs.Rows.{columnsOf, columnAt, noSuchColumn, boundOf, outside, plainEnd, starEnd, tripletEnd, fieldEnd, onward, reach, placeOf, keep, keptBy, keptFor, columnPlace, usedUp, idJudged, fieldsRefusal, rowRefusal, rowJudged}
 use Rattle.table.specs.Plans.{idOffset, fixedBound, fixedRow, entryEnd, walkedBound, boundBy, tripletCode, starCode, fixedCode, codeOf, codeAt, planOf, codeEnd, planReach, plannedFields, plannedRow, plannedPlaces}
 use Rattle.table.proofs.FieldLaws.{plain-within, star-within, triplet-within}

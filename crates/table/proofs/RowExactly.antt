@@ -1,42 +1,40 @@
 -- A ROW OF AN OPENED TABLE IS FINE EXACTLY WHEN its fields, read in column order, use exactly its bytes and its id is its number; and in
 -- a table of one width the places by offset are those of the walk. Assumes nothing.
-use mathlib.Core.Path.{_≡_, refl, sym, ap, subst, _∙_}
-use mathlib.Core.Logic.{_↔_, _⊎_, inl, inr, ⊎-elim}
-use mathlib.Core.Bool.{Bool, true, false, cond, not, true≢false}
+use mathlib.Core.Path.{_≡_, refl, sym, ap, _∙_}
+use mathlib.Core.Logic.{_↔_, inl, inr}
+use mathlib.Core.Bool.{false, not}
 use mathlib.Core.List.{List}
-use Prim.Native.Nat.{ℕ, zero, suc, pred, min, _+_, _-_, _*_, _≤_, _<_}
+use Prim.Native.Nat.{ℕ, zero, suc, pred, min, _+_, _≤_}
 use native.Mathlib.Omega.{arith}
 use borrow.Author.Tests.{eq-eqb, ne-eqb, eqb-true, eqb-false, le-ltb}
-use lib.Dec.{eqb, ltb}
+use lib.Dec.{eqb}
 use lib.ListN.{length}
-use Rattle.laws.specs.Lowest.{In, Each}
+use Rattle.laws.specs.Lowest.{In}
 use Rattle.laws.specs.Sums.{sum}
 use Rattle.laws.proofs.LowestLaws.{bool-cases}
 use Rattle.laws.proofs.SumLaws.{sum-first}
 use Rattle.laws.proofs.TestLaws.{clash, not-unequal}
 use Rattle.refusal.specs.declared.Refusal.{Refusal}
-use Rattle.refusal.specs.Order.{refusal, fine, refusedIf, first}
+use Rattle.refusal.specs.Order.{fine}
 use Rattle.refusal.proofs.OrderLaws.{first-passes, refused-if-passes}
 use Rattle.number.specs.Bytes.{number}
 use Rattle.grammar.specs.Words.{Reading}
-use Rattle.field.specs.Fields.{letterOf, isTriplet}
-use Rattle.field.specs.Letters.{letterK}
+use Rattle.field.specs.Fields.{letterOf}
 use Rattle.field.specs.declared.FieldType.the-variants as type
 use Rattle.field.proofs.TableRule.{letter-of-type}
 use Rattle.header.specs.declared.Layout.{Layout}
-use Rattle.header.specs.declared.ColumnLayout.{ColumnLayout}
-use Rattle.header.specs.Judge.{mostColumns}
 use Rattle.header.specs.Words as read
-use Rattle.header.specs.LayoutWords.{Varies, layoutAt, LaidOut}
+use Rattle.header.specs.LayoutWords.{layoutAt, LaidOut}
 use Rattle.header.proofs.LayoutMeans.{laid-out}
-use Rattle.table.specs.declared.Table.{Table}
+use Rattle.opening.specs.declared.Table.{Table}
 use Rattle.table.specs.declared.Reach.{Reach}
 use Rattle.table.specs.declared.Reach.the-variants.{At, Short, Cut}
-use Rattle.table.specs.declared.Row.the-variants.{Between, Refused}
-use Rattle.table.specs.Opening.{mostRows, needsIndex}
-use Rattle.table.specs.Rows.{columnsOf, noSuch, noSuchRow, noSuchColumn, columnAt, boundOf, outside, reach, placeOf, placeOfColumn, idAt, idRefusal, usedUp, offsetPlace, columnPlace, fieldsRefusal, placeRefusal, rowRefusal, unlessRefused, rowOf}
-use Rattle.table.specs.Words.{layoutOf, NoneVaries, Opens, OneWidth, NoWidth, FieldEnds, Fields, RowRight}
-use Rattle.table.proofs.OpenedExactly.{one-width-exactly, in-reading}
+use Rattle.table.specs.declared.Row.the-variants.{Between}
+use Rattle.opening.specs.Opening.{mostRows, needsIndex}
+use Rattle.table.specs.Rows.{columnsOf, noSuch, noSuchRow, columnAt, boundOf, outside, reach, placeOf, placeOfColumn, idAt, idRefusal, usedUp, offsetPlace, columnPlace, fieldsRefusal, rowRefusal, rowOf}
+use Rattle.opening.specs.Words.{layoutOf, Opens, OneWidth}
+use Rattle.table.specs.Words.{RowRight}
+use Rattle.opening.proofs.OpenedExactly.{one-width-exactly, in-reading}
 use Rattle.table.proofs.RowsPartition.{row-inside, row-width}
 use Rattle.table.proofs.FieldExactly.{next-field, walk-fields, fields-end, place-found}
 

@@ -1,5 +1,5 @@
 -- What the tests before a row's fields say: that the row lies inside the file, that a column or row is there. Assumes nothing.
-use mathlib.Core.Path.{_≡_, sym, ap, _∙_}
+use mathlib.Core.Path.{_≡_, sym}
 use mathlib.Core.Bool.{Bool, false}
 use mathlib.Core.List.{List}
 use Prim.Native.Nat.{ℕ, _≤_, _<_}
@@ -12,8 +12,8 @@ use Rattle.laws.proofs.TestLaws.{both-false, clash}
 use Rattle.refusal.specs.declared.Refusal.{Refusal}
 use Rattle.refusal.proofs.OrderLaws.{first-passes, first-refuses}
 use Rattle.header.specs.declared.Layout.{Layout}
-use Rattle.table.specs.declared.Table.{Table}
-use Rattle.table.specs.Opening.{mostRows}
+use Rattle.opening.specs.declared.Table.{Table}
+use Rattle.opening.specs.Opening.{mostRows}
 use Rattle.table.specs.Rows.{rowsOf, noSuchRow, noSuch, noSuchColumn, outside, fieldsRefusal, placeRefusal, rowRefusal}
 
 -- a row that is not outside the file

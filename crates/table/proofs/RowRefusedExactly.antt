@@ -26,12 +26,13 @@ use Rattle.triplet.specs.Words.{BadAt}
 use Rattle.triplet.proofs.ReadExactly.{refused-exactly}
 use Rattle.header.specs.declared.ColumnLayout.{ColumnLayout}
 use Rattle.header.specs.declared.Layout.{Layout}
-use Rattle.table.specs.declared.Table.{Table}
+use Rattle.opening.specs.declared.Table.{Table}
 use Rattle.table.specs.declared.Reach.{Reach}
 use Rattle.table.specs.declared.Reach.the-variants.{At, Short, Cut}
 use Rattle.table.specs.declared.Row.the-variants.{Refused}
 use Rattle.table.specs.Rows.{columnAt, boundOf, plainEnd, starEnd, pastTriplet, tripletEnd, fieldEnd, onward, reach, placeOf, placeOfColumn, idAt, idRefusal, usedUp, rowRefusal, rowOf}
-use Rattle.table.specs.Words.{layoutOf, Opens, FieldEnds, Begun, FieldMissing, TripletBad, NotUsedUp, IdWrong, RowRefused}
+use Rattle.opening.specs.Words.{layoutOf, Opens}
+use Rattle.table.specs.Words.{FieldEnds, Begun, FieldMissing, TripletBad, NotUsedUp, IdWrong, RowRefused}
 use Rattle.table.proofs.WalkLaws.{stays, reach-within}
 use Rattle.table.proofs.FieldExactly.{triplet-kind, field-exactly, walk-begun, begun-walk, walk-fields, fields-end, place-found}
 use Rattle.table.proofs.RowExactly.{means, forward, inside-file, row-by-walk, row-there}

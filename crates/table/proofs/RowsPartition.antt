@@ -1,7 +1,7 @@
 -- IN AN OPENED TABLE THE ROWS PARTITION THE BODY: the first starts at L + 4, each next where the last ended, the last ends with the
 -- file, and every byte of the body lies in exactly one row. Assumes nothing.
-use mathlib.Core.Path.{_≡_, refl, sym, ap, subst, _∙_}
-use mathlib.Core.Logic.{_⊎_, ⊎-elim}
+use mathlib.Core.Path.{_≡_, refl, sym, _∙_}
+use mathlib.Core.Logic.{⊎-elim}
 use mathlib.Core.List.{List}
 use Prim.Native.Nat.{ℕ, zero, suc, pred, _+_, _*_, _≤_, _<_}
 use native.Mathlib.Omega.{arith}
@@ -12,11 +12,11 @@ use Rattle.laws.specs.Partition.{Partition}
 use Rattle.laws.proofs.PartitionLaws.{partition}
 use Rattle.grammar.specs.Words.{Reading}
 use Rattle.header.specs.declared.Layout.{Layout}
-use Rattle.table.specs.Opening.{offsetAt, lengthAt, endAt}
+use Rattle.opening.specs.Opening.{endAt}
 use Rattle.table.specs.Rows.{boundOf}
-use Rattle.table.specs.Words.{layoutOf, FixedBody, IndexedBody, Opens, OneWidth, NoWidth}
-use Rattle.table.proofs.OpeningLaws.{end-first, end-entry}
-use Rattle.table.proofs.OpenedExactly.{no-width-exactly, one-width-exactly, starts-right, ends-right}
+use Rattle.opening.specs.Words.{layoutOf, FixedBody, Opens, OneWidth, NoWidth}
+use Rattle.opening.proofs.OpeningLaws.{end-first, end-entry}
+use Rattle.opening.proofs.OpenedExactly.{no-width-exactly, one-width-exactly, starts-right, ends-right}
 
 -- where row k ends: k widths past the start, or by its entry
 pub bound-fixed : (l : Layout) (index : List ℕ) (k : ℕ) → 0 < l .width → boundOf l index k ≡ l .start + l .width * k

@@ -1,20 +1,18 @@
 -- EACH VALUE IS A FUNCTION OF ITS ROW'S OWN BYTES: two files that have the same bytes there give the row the same judgement and the
 -- column the same value, and a part that is shown lies inside the row. Assumes nothing.
 use mathlib.Core.Path.{_≡_, refl, sym, ap, subst, _∙_}
-use mathlib.Core.Logic.{_↔_, _⊎_, inl, inr, ⊎-elim}
-use mathlib.Core.Bool.{Bool, true, false, cond, not, true≢false}
+use mathlib.Core.Bool.{Bool, true, false, cond, not}
 use mathlib.Core.List.{List}
-use Prim.Native.Nat.{ℕ, zero, suc, pred, min, _+_, _-_, _*_, _≤_, _<_}
+use Prim.Native.Nat.{ℕ, zero, suc, pred, _+_, _-_, _*_, _≤_}
 use native.Mathlib.Omega.{arith}
 use lib.Dec.{eqb, ltb}
 use lib.ListN.{length, take, drop}
 use lib.Seq.{take-take, drop-drop}
-use borrow.Author.Tests.{ltb-false, eq-eqb}
+use borrow.Author.Tests.{ltb-false}
 use Rattle.laws.specs.Lowest.{In}
 use Rattle.laws.proofs.LowestLaws.{bool-cases}
 use Rattle.laws.proofs.TestLaws.{clash}
 use Rattle.laws.proofs.PlaceLaws.{drop-take}
-use Rattle.refusal.specs.declared.Refusal.{Refusal}
 use Rattle.refusal.specs.Order.{refusedIf}
 use Rattle.number.specs.declared.Order.{Order}
 use Rattle.number.specs.Bytes.{value, number}
@@ -22,26 +20,26 @@ use Rattle.number.proofs.NumberLaws.{number-inside}
 use Rattle.grammar.specs.Words.{Reading}
 use Rattle.field.specs.declared.FieldType.{FieldType}
 use Rattle.field.specs.declared.FieldType.the-variants as type
-use Rattle.field.specs.Fields.{widthOf, starOf, isTriplet}
+use Rattle.field.specs.Fields.{widthOf, starOf}
 use Rattle.field.specs.Nulls.{shortHalf, integerHalf, signed, shortIsNull, integerIsNull, floatIsNull, doubleIsNull}
 use Rattle.triplet.specs.declared.Triplet as read
 use Rattle.triplet.specs.Triplet.{tripletOf}
 use Rattle.header.specs.declared.ColumnLayout.{ColumnLayout}
 use Rattle.header.specs.declared.Layout.{Layout}
 use Rattle.header.specs.LayoutWords.{layoutAt}
-use Rattle.table.specs.declared.Table.{Table}
+use Rattle.opening.specs.declared.Table.{Table}
 use Rattle.table.specs.declared.Reach.{Reach}
 use Rattle.table.specs.declared.Reach.the-variants.{At, Short, Cut}
-use Rattle.table.specs.declared.Row.the-variants as row
 use Rattle.table.specs.declared.Value.{Value}
 use Rattle.table.specs.declared.Value.the-variants as val
-use Rattle.table.specs.Rows.{noSuchColumn, columnAt, boundOf, pastTriplet, plainEnd, starEnd, tripletEnd, fieldEnd, onward, reach, placeOf, placeOfColumn, idRefusal, usedUp, columnPlace, rowRefusal, rowOf}
+use Rattle.table.specs.Rows.{columnAt, boundOf, starEnd, tripletEnd, fieldEnd, onward, reach, placeOf, placeOfColumn, idRefusal, usedUp, columnPlace, rowRefusal}
 use Rattle.table.specs.Values.{shortOf, integerOf, floatOf, doubleOf, elementsStart, elementsBytes, tripletOfRead, byType, shown, valueOf}
-use Rattle.table.specs.Words.{layoutOf, Opens, FieldEnds, RowRight, SameRow, PartInside}
+use Rattle.opening.specs.Words.{layoutOf, Opens}
+use Rattle.table.specs.Words.{FieldEnds, RowRight, SameRow, PartInside}
 use Rattle.table.proofs.WalkLaws.{reach-within}
 use Rattle.table.proofs.FieldExactly.{came, passed, next-field, field-at, fields-end}
 use Rattle.table.proofs.ColumnBytes.{OneElement, column-one-element, id-kind, ends-after, element-room, star-room, fixed-room}
-use Rattle.table.proofs.RowExactly.{there, means, columns-all, forward, inside-file, place-by-walk, row-by-walk, row-exactly, row-there, row-of-exactly}
+use Rattle.table.proofs.RowExactly.{there, means, columns-all, forward, inside-file, place-by-walk, row-by-walk, row-there, row-of-exactly}
 
 -- the walk does not go back
 pub reach-after : (s : List ℕ) (l : Layout) (start end : ℕ) → start ≤ end → end ≤ length s → (k p : ℕ) → reach s l start end k ≡ At p → start ≤ p

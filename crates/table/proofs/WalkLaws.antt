@@ -12,7 +12,7 @@ use Rattle.header.specs.declared.Layout.{Layout}
 use Rattle.table.specs.declared.Reach.{Reach}
 use Rattle.table.specs.declared.Reach.the-variants.{At, Short, Cut}
 use Rattle.table.specs.declared.Places.{Places}
-use Rattle.table.specs.Opening.{needsIndex}
+use Rattle.opening.specs.Opening.{needsIndex}
 use Rattle.table.specs.Rows.{fieldEnd, columnAt, onward, reach, placeOf, columnPlace, keep, keptBy, placesKept, walked}
 use Rattle.table.proofs.FieldLaws.{field-within}
 

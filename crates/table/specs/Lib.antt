@@ -1,4 +1,3 @@
-pub mod Opening
 pub mod Rows
 pub mod Plans
 pub mod Values

@@ -16,14 +16,14 @@ use Rattle.header.specs.declared.Layout.{Layout}
 use Rattle.header.specs.declared.ColumnLayout.{ColumnLayout}
 use Rattle.header.specs.Judge.{mostColumns}
 use Rattle.header.specs.Layouts.{blankColumn}
-use Rattle.table.specs.declared.Table.{Table}
+use Rattle.opening.specs.declared.Table.{Table}
 use Rattle.table.specs.declared.Reach.{Reach}
 use Rattle.table.specs.declared.Reach.the-variants.{At, Short, Cut}
 use Rattle.table.specs.declared.Places.{Places}
 use Rattle.table.specs.declared.Found.{Found}
 use Rattle.table.specs.declared.Row.{Row}
 use Rattle.table.specs.declared.Row.the-variants.{Between, Refused}
-use Rattle.table.specs.Opening.{mostRows, needsIndex, endAt}
+use Rattle.opening.specs.Opening.{mostRows, needsIndex, endAt}
 
 -- rows and columns that a table has, whoever made it
 abbrev pub rowsOf : Table → ℕ

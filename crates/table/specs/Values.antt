@@ -1,10 +1,8 @@
 -- Values: what the field of a column says, by its type; "Text and date are shown as parts of the caller's file, not copied."
-use mathlib.Core.Bool.{Bool, true, false, cond}
-use mathlib.Core.List.{List, []}
+use mathlib.Core.Bool.{cond}
+use mathlib.Core.List.{List}
 use Prim.Native.Nat.{ℕ, min, _+_, _-_, _*_}
-use lib.Dec.{eqb, ltb}
-use lib.ListN.{length, take, drop}
-use Rattle.refusal.specs.declared.Refusal.{Refusal}
+use lib.ListN.{take, drop}
 use Rattle.refusal.specs.Order.{refusal}
 use Rattle.number.specs.declared.Order.{Order}
 use Rattle.number.specs.Bytes.{number}
@@ -14,9 +12,8 @@ use Rattle.field.specs.Fields.{widthOf}
 use Rattle.field.specs.Nulls.{shortHalf, integerHalf, signed, shortIsNull, integerIsNull, floatIsNull, doubleIsNull}
 use Rattle.triplet.specs.declared.Triplet as read
 use Rattle.triplet.specs.Triplet.{tripletOf}
-use Rattle.header.specs.declared.Layout.{Layout}
 use Rattle.header.specs.declared.ColumnLayout.{ColumnLayout}
-use Rattle.table.specs.declared.Table.{Table}
+use Rattle.opening.specs.declared.Table.{Table}
 use Rattle.table.specs.declared.Row as row
 use Rattle.table.specs.declared.Value.{Value}
 use Rattle.table.specs.declared.Value.the-variants.{Short, ShortNull, Integer, IntegerNull, Float, FloatNull, Double, DoubleNull, Triplet, Text, Date, Coordinates, Empty, Refused}

@@ -1,147 +1,22 @@
--- "Rows and index" in the paper's words: when a table opens, what each refusal of the opening says, when a row is right, and which
--- bytes a value depends on.
+-- "Rows and index" in the paper's words: when a row is right, when it is refused, and which bytes a value depends on.
 use mathlib.Core.Path.{_≡_}
 use mathlib.Core.Logic.{_⊎_}
 use mathlib.Core.Bool.{true, false}
-use mathlib.Core.List.{List, []}
-use Prim.Native.Nat.{ℕ, suc, pred, min, _+_, _-_, _*_, _≤_, _<_}
+use mathlib.Core.List.{List}
+use Prim.Native.Nat.{ℕ, suc, pred, _+_, _-_, _*_, _≤_}
 use lib.ListN.{length, take, drop}
-use Rattle.laws.specs.Lowest.{In, Each, LowestFailing}
+use Rattle.laws.specs.Lowest.{In, Each}
 use Rattle.number.specs.declared.Order.{Order}
 use Rattle.number.specs.Bytes.{number}
 use Rattle.field.specs.declared.FieldType.the-variants.{Triplet}
 use Rattle.field.specs.Fields.{widthOf}
 use Rattle.triplet.specs.declared.Ids.{Ids}
 use Rattle.triplet.specs.Words.{BeginsWith, BadAt}
-use Rattle.grammar.specs.Words.{Reading}
 use Rattle.header.specs.declared.ColumnLayout.{ColumnLayout}
 use Rattle.header.specs.declared.Layout.{Layout}
-use Rattle.header.specs.Layouts.{headerOf}
-use Rattle.header.specs.Words.{columnAt, AcceptedHeader}
-use Rattle.header.specs.LayoutWords.{Varies, layoutAt}
-use Rattle.header.specs.Refusals as header
+use Rattle.header.specs.LayoutWords.{layoutAt}
 use Rattle.table.specs.declared.Value.{Value}
 use Rattle.table.specs.declared.Value.the-variants as value
-use Rattle.table.specs.Opening.{mostRows, entriesSaid, headerSize, offsetAt, lengthAt, endAt, rowsSaid}
-
--- ---- when a table opens
-
--- what the rows take from the file's header: its `start` is L + 4
-abbrev pub layoutOf : List ℕ → Layout
-layoutOf file = headerOf file .layout
-
--- "Without a `*` or K column all rows have one width"; "Otherwise an index is needed"
-abbrev pub NoneVaries : Reading → Type 0
-NoneVaries h = Each (length (h .columns)) (λ k. Varies (columnAt h k) → ⊥)
-
-abbrev pub SomeVaries : Reading → Type 0
-SomeVaries h = (k : ℕ) × In (length (h .columns)) k × Varies (columnAt h k)
-
--- a body of n rows of one width: "the body is a whole number of them; the lent index is empty"
-pub record FixedBody (l : Layout) (index : List ℕ) (size n : ℕ) : Type 0 where
-  pub no-index : index ≡ []
-  pub whole-rows : size ≡ l .start + l .width * n
-
--- a body of n rows that the index places
-pub record IndexedBody (l : Layout) (index : List ℕ) (size n : ℕ) : Type 0 where
-  pub count : entriesSaid l index ≡ n
-  -- "its length is exactly 8 + 8n"
-  pub long : length index ≡ 8 + 8 * n
-  -- "The header size must be L or L + 4."
-  pub header-size : (headerSize l index ≡ l .start) ⊎ (headerSize l index + 4 ≡ l .start)
-  -- "Row 1 starts at L + 4, each next row where the last ended"
-  pub row-1 : 0 < n → offsetAt l index 1 ≡ l .start
-  pub next-row : (k : ℕ) → 0 < k → k < n → offsetAt l index (suc k) ≡ offsetAt l index k + lengthAt l index k
-  -- "and the last ends with the file (at L + 4 when n is 0)"
-  pub last-row : 0 < n → offsetAt l index n + lengthAt l index n ≡ size
-  pub no-row : n ≡ 0 → l .start ≡ size
-
--- A TABLE OPENS with n rows EXACTLY WHEN these hold of it and the reading h of its header
-pub record Opens (file index : List ℕ) (most : ℕ) (h : Reading) (n : ℕ) : Type 0 where
-  pub header : AcceptedHeader file h
-  -- the caller's most rows, and "over 1,000,000 rows"
-  pub as-asked : n ≤ most
-  pub row-limit : n ≤ mostRows
-  pub body : (NoneVaries h × FixedBody (layoutOf file) index (length file) n) ⊎ (SomeVaries h × IndexedBody (layoutOf file) index (length file) n)
-
--- ---- the tests by name, after the header's own: "8 at 0 for a needed index under 8 bytes, 15, 7 or 8"
-
-pub data Test : Type 0 where
-  header-accepted : Test
-  index-there : Test
-  rows-few : Test
-  whole-rows : Test
-  index-head : Test
-  entries : Test
-  last-end : Test
-
--- the place of each test in the order
-abbrev pub rank : Test → ℕ
-rank header-accepted = 0
-rank index-there = 1
-rank rows-few = 2
-rank whole-rows = 3
-rank index-head = 4
-rank entries = 5
-rank last-end = 6
-
--- all rows have one width; they have none
-abbrev pub OneWidth : List ℕ → Type 0
-OneWidth file = 0 < layoutOf file .width
-
-abbrev pub NoWidth : List ℕ → Type 0
-NoWidth file = layoutOf file .width ≡ 0
-
--- n of the index
-abbrev pub entriesOf : List ℕ → List ℕ → ℕ
-entriesOf file index = entriesSaid (layoutOf file) index
-
--- "its length is exactly 8 + 8n", "The header size must be L or L + 4."
-abbrev pub HeadRight : List ℕ → List ℕ → Type 0
-HeadRight file index =
-    (length index ≡ 8 + 8 * entriesOf file index)
-    × ((headerSize (layoutOf file) index ≡ layoutOf file .start) ⊎ (headerSize (layoutOf file) index + 4 ≡ layoutOf file .start))
-
--- "Row 1 starts at L + 4, each next row where the last ended"
-abbrev pub StartsRight : List ℕ → List ℕ → ℕ → Type 0
-StartsRight file index k = offsetAt (layoutOf file) index k ≡ endAt (layoutOf file) index (pred k)
-
--- "the last ends with the file (at L + 4 when n is 0)"
-abbrev pub EndsRight : List ℕ → List ℕ → Type 0
-EndsRight file index = endAt (layoutOf file) index (entriesOf file index) ≡ length file
-
-abbrev pub FixedRight : List ℕ → List ℕ → Type 0
-FixedRight file index = (n : ℕ) × FixedBody (layoutOf file) index (length file) n
-
--- "15 (rows, whole ones in a fixed body, n in an index)"
-abbrev pub rowsIn : List ℕ → List ℕ → ℕ
-rowsIn file index = rowsSaid (layoutOf file) index (length file)
-
--- what each test asks
-abbrev pub Holds : List ℕ → List ℕ → ℕ → Test → Type 0
-Holds file index most header-accepted = (h : Reading) × AcceptedHeader file h
-Holds file index most index-there = NoWidth file → 8 ≤ length index
-Holds file index most rows-few = rowsIn file index ≤ min most mostRows
-Holds file index most whole-rows = OneWidth file → FixedRight file index
-Holds file index most index-head = NoWidth file → HeadRight file index
-Holds file index most entries = NoWidth file → Each (entriesOf file index) (StartsRight file index)
-Holds file index most last-end = NoWidth file → EndsRight file index
-
--- this test fails, with the number n at the place p
-abbrev pub FailsAt : List ℕ → List ℕ → ℕ → Test → ℕ → ℕ → Type 0
-FailsAt file index most header-accepted n p = header.RefusedWith file n p
-FailsAt file index most index-there n p = (n ≡ 8) × (p ≡ 0) × NoWidth file × (length index < 8)
-FailsAt file index most rows-few n p = (n ≡ 15) × (p ≡ 0) × (min most mostRows < rowsIn file index)
-FailsAt file index most whole-rows n p = (n ≡ 7) × (p ≡ length file) × OneWidth file × (FixedRight file index → ⊥)
-FailsAt file index most index-head n p = (n ≡ 8) × (p ≡ 0) × NoWidth file × (HeadRight file index → ⊥)
-FailsAt file index most entries n p = (n ≡ 8) × NoWidth file × LowestFailing (entriesOf file index) (StartsRight file index) p
-FailsAt file index most last-end n p = (n ≡ 8) × (p ≡ entriesOf file index) × NoWidth file × (EndsRight file index → ⊥)
-
--- A TABLE IS REFUSED WITH n AT p EXACTLY WHEN a test fails so and all earlier ones hold
-pub record RefusedWith (file index : List ℕ) (most n p : ℕ) : Type 0 where
-  pub test : Test
-  pub earlier : (x : Test) → rank x < rank test → Holds file index most x
-  pub fails : FailsAt file index most test n p
 
 -- ---- when a row is right: "Row i must have id i and use exactly its bytes."
 

@@ -1,5 +1,4 @@
-// Tables: opened with their lent index, rows found and judged, values handed out.
-pub mod opening;
+// Opened tables: rows found and judged, values handed out.
 pub mod rows;
 
 ghost use mathlib.Core.Path.{_≡_};
@@ -11,23 +10,21 @@ ghost use Rattle.triplet.specs.Triplet.{tripletOf};
 ghost use Rattle.header.specs.Judge.{mostColumns};
 ghost use Rattle.header.specs.Layouts.{blankColumn};
 ghost use Rattle.field.specs.Nulls.{shortHalf, integerHalf, signed};
-ghost use Rattle.table.specs.Opening.{mostRows, endAt};
+ghost use Rattle.opening.specs.Opening.{mostRows};
 ghost use Rattle.table.specs.Rows.{columnsOf, noSuch, noSuchColumn, outside, columnAt, boundOf, plainEnd, starEnd, tripletEnd, fieldEnd, walked, slotsFor, keptFor, foundOf, idJudged, usedUp, columnPlace, offsetPlace, fieldsRefusal, placeRefusal, rowRefusal, unlessRefused, rowOf};
 ghost use Rattle.table.specs.Plans.{fixedBound, entryEnd, walkedBound};
 ghost use Rattle.table.specs.Values.{shortOf, integerOf, floatOf, doubleOf, elementsStart, elementsBytes, tripletOfRead, shown, inRow, valueOf, shownStart, shownBytes, partOf};
 
 use field::FieldType;
-use header::Answer;
 use header::ColumnLayout;
 use header::Layout;
 use header::MOST_COLUMNS;
 use number::Order;
+use opening::Table;
+use opening::MOST_ROWS;
 use refusal::Refusal;
 use triplet::Ids;
 use triplet::Triplet;
-
-// "15: over 1,000,000 rows"
-pub const MOST_ROWS: usize = 1000000;
 
 // Refusals: a wrong id, a row too short or not used up, a bad triplet, no such row or column.
 const WRONG_ID: u32 = 9;
@@ -38,18 +35,6 @@ const NO_SUCH: u32 = 13;
 // The slots of the id column and of the column asked for, in a walk that looks for both.
 const ID_SLOT: u8 = 1;
 const COLUMN_SLOT: u8 = 2;
-
-// An opened table: what its header says of the rows, and how many there are. Whoever has one may lend it with any file: rows past
-// the millionth and columns past the 64th are not there.
-pub struct Table {
-    pub layout: Layout,
-    pub rows: usize,
-}
-
-pub struct Opened {
-    pub answer: Answer,
-    pub table: Table,
-}
 
 // Where a field ends; or the row is too short for it (10); or it is a bad triplet, and where (11).
 pub enum Reach {
@@ -388,15 +373,6 @@ fn entry_bound(index: &[u8], order: Order, first: u32, k: usize) -> usize
         return first as usize;
     }
     entry_end(index, order, k)
-}
-
-// The same by a layout.
-fn end_at(index: &[u8], layout: Layout, k: usize) -> usize
-    requires { ⌜ k < 4294967296 ⌝ }
-    ensures { λ r. ⌜ r ≡ endAt layout (now (index .entry)) k ⌝ }
-{
-    let order = layout.order;
-    entry_bound(index, order, layout.start, k)
 }
 
 // The end of row k where all rows have one width.

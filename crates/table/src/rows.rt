@@ -1,15 +1,15 @@
 // The rows of a table by plain numbers, which are taken of the layout once for all rows, so that a row costs its own bytes and no copy
 // of the layout: judged lowest first, and the places of columns found.
 use crate::Reach;
-use crate::Table;
 use crate::BAD_TRIPLET;
-use crate::MOST_ROWS;
 use crate::WRONG_ID;
 use crate::WRONG_ROW;
 use header::ColumnLayout;
 use header::Layout;
 use header::MOST_COLUMNS;
 use number::Order;
+use opening::Table;
+use opening::MOST_ROWS;
 use refusal::Refusal;
 ghost use mathlib.Core.Path.{_≡_};
 ghost use mathlib.Core.Bool.{cond};
@@ -17,7 +17,7 @@ ghost use Prim.Native.Nat.{min, _≤_, _<_};
 ghost use lib.ListN.{length};
 ghost use Rattle.refusal.specs.Order.{lowestOf};
 ghost use Rattle.header.specs.Judge.{mostColumns};
-ghost use Rattle.table.specs.Opening.{mostRows};
+ghost use Rattle.opening.specs.Opening.{mostRows};
 ghost use Rattle.table.specs.Rows.{keptBy, rowJudged, rowsRefusal};
 ghost use Rattle.table.specs.Plans.{idOffset, fixedRow, boundBy, codeOf, planOf, codeEnd, planReach, plannedFields, plannedRow, plannedPlaces};
 

@@ -12,9 +12,9 @@ use libc::STDOUT_FILENO;
 use number::Order;
 use rectangle::Found;
 use refusal::Refusal;
-use table::Opened;
+use opening::Opened;
 use table::Row;
-use table::Table;
+use opening::Table;
 use table::Value;
 use triplet::Ids;
 
@@ -248,9 +248,9 @@ fn say_rows(file: &[u8], index: &[u8], table: Table) {
 // The table opened for a caller that takes so many rows, or as many as the library does.
 fn open_asked(file: &[u8], index: &[u8], most: &[u8]) -> Opened {
     if most.len() == 0 {
-        return table::opening::open_table(file, index);
+        return opening::open_table(file, index);
     }
-    table::opening::open_within(file, index, number::read8(most, 0, Order::Least) as usize)
+    opening::open_within(file, index, number::read8(most, 0, Order::Least) as usize)
 }
 
 fn say_table(file: &[u8], index: &[u8], most: &[u8]) {

@@ -1,4 +1,4 @@
-use Rattle.table.specs.Opening.{mostRows}
+use Rattle.opening.specs.Opening.{mostRows}
 use Rattle.table.specs.Plans.{boundBy}
 use Rattle.table.proofs.PlanLaws.{bound-by}
 use native.Mathlib.Omega.{arith}

@@ -7,7 +7,7 @@ use Rattle.abi.proofs.tables.vumbarete_judge_rows.Lts as lts
 use Rattle.table.proofs.rows.judge_rows.Reads as judge-rows-reads
 use Rattle.abi.proofs.tables.plain_table.Reads as plain-table-reads
 use Rattle.abi.proofs.tables.refused_table.Reads as refused-table-reads
-use Rattle.table.proofs.opening.open_table.Reads as open-table-reads
+use Rattle.opening.proofs.open_table.Reads as open-table-reads
 
 -- src/tables.rt:256:9
 open-table-requires : tie.Need-open-table-requires

@@ -4,7 +4,7 @@ use Rattle.abi.proofs.tables.vumbarete_open.Tie as tie
 use Rattle.abi.proofs.tables.vumbarete_open.Reads as reads
 use Rattle.abi.proofs.tables.vumbarete_open.Lts as lts
 use Rattle.abi.proofs.tables.plain_table.Reads as plain-table-reads
-use Rattle.table.proofs.opening.open_table.Reads as open-table-reads
+use Rattle.opening.proofs.open_table.Reads as open-table-reads
 
 -- src/tables.rt:203:17
 open-table-requires : tie.Need-open-table-requires

@@ -6,7 +6,7 @@ use Rattle.abi.proofs.tables.vumbarete_rectangle.Reads as reads
 use Rattle.abi.proofs.tables.vumbarete_rectangle.Lts as lts
 use Rattle.abi.proofs.tables.plain_rectangle.Reads as plain-rectangle-reads
 use Rattle.rectangle.proofs.find_rectangle.Reads as find-rectangle-reads
-use Rattle.table.proofs.opening.open_table.Reads as open-table-reads
+use Rattle.opening.proofs.open_table.Reads as open-table-reads
 
 -- src/tables.rt:243:9
 open-table-requires : tie.Need-open-table-requires

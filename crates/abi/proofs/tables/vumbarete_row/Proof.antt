@@ -5,7 +5,7 @@ use Rattle.abi.proofs.tables.vumbarete_row.Tie as tie
 use Rattle.abi.proofs.tables.vumbarete_row.Reads as reads
 use Rattle.abi.proofs.tables.vumbarete_row.Lts as lts
 use Rattle.abi.proofs.tables.plain_row.Reads as plain-row-reads
-use Rattle.table.proofs.opening.open_table.Reads as open-table-reads
+use Rattle.opening.proofs.open_table.Reads as open-table-reads
 use Rattle.table.proofs.read_row.Reads as read-row-reads
 
 -- src/tables.rt:211:9

@@ -5,7 +5,7 @@ use Rattle.abi.proofs.tables.vumbarete_value.Tie as tie
 use Rattle.abi.proofs.tables.vumbarete_value.Reads as reads
 use Rattle.abi.proofs.tables.vumbarete_value.Lts as lts
 use Rattle.abi.proofs.tables.plain_value.Reads as plain-value-reads
-use Rattle.table.proofs.opening.open_table.Reads as open-table-reads
+use Rattle.opening.proofs.open_table.Reads as open-table-reads
 use Rattle.table.proofs.read_value.Reads as read-value-reads
 
 -- src/tables.rt:227:9

@@ -1,6 +1,6 @@
 use Rattle.table.proofs.PlanLaws.{fixedAt, fixed-next, fixed-rows}
 use Rattle.table.specs.Plans.{fixedBound}
-use Rattle.table.specs.Opening.{mostRows}
+use Rattle.opening.specs.Opening.{mostRows}
 use Rattle.refusal.proofs.OrderLaws.{on-next, found, all-fine}
 use Rattle.refusal.specs.Order.{refuses}
 use Rattle.laws.proofs.LowestLaws.{none-start}

@@ -1,5 +1,5 @@
 use Rattle.table.proofs.PlanLaws.{walkedAt, walked-end, walked-next, walked-rows}
-use Rattle.table.specs.Opening.{mostRows}
+use Rattle.opening.specs.Opening.{mostRows}
 use Rattle.table.specs.Plans.{walkedBound}
 use Rattle.header.specs.Judge.{mostColumns}
 use Rattle.refusal.proofs.OrderLaws.{on-next, found, all-fine}

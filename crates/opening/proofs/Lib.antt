@@ -1,0 +1,3 @@
+pub mod OpeningLaws
+pub mod OpeningInOrder
+pub mod OpenedExactly

@@ -1,0 +1,149 @@
+-- The laws of index entries, and of an opening that goes on after the header. Assumes nothing.
+use mathlib.Core.Path.{_≡_, refl, sym, ap, _∙_}
+use mathlib.Core.Bool.{Bool, true, false, cond, not}
+use mathlib.Core.List.{List}
+use Prim.Native.Nat.{ℕ, zero, suc, min, _+_, _≤_, _<_}
+use native.Mathlib.Omega.{arith}
+use native.Mathlib.Numerals.{add-one}
+use lib.Dec.{eqb, ltb}
+use lib.ListN.{length}
+use borrow.Author.Tests.{eqb-true, eqb-false, eq-eqb, ne-eqb, lt-ltb, le-ltb}
+use Rattle.laws.proofs.LowestLaws.{bool-cases}
+use Rattle.laws.proofs.TestLaws.{clash}
+use Rattle.refusal.specs.declared.Refusal.{Refusal}
+use Rattle.laws.specs.Lowest.{lowest}
+use Rattle.refusal.specs.Order.{refusal, fine, refusedIf, located, first}
+use Rattle.refusal.proofs.OrderLaws.{first-passes, first-refuses, located-zero, located-at, located-passes}
+use Rattle.header.specs.declared.Layout.{Layout}
+use Rattle.header.specs.declared.Header.{Header}
+use Rattle.header.specs.declared.Answer.the-variants.{Accepted, Refused}
+use Rattle.header.specs.Judge.{answered, headerRefusal}
+use Rattle.header.specs.Layouts.{headerOf}
+use Rattle.opening.specs.declared.Table.{Table}
+use Rattle.opening.specs.declared.Opened.{Opened}
+use Rattle.opening.specs.Opening.{mostRows, needsIndex, entriesSaid, offsetAt, lengthAt, endAt, entryWrong, headWrong, indexRefusal, rowsSaid, bodyRefusal, openRefusal, tableRefusal, tableFrom, noTable, openedAs, openedOf}
+
+module _ (l : Layout) (index : List ℕ) where
+  -- where row 1 starts
+  pub end-first : (k : ℕ) → k ≡ 0 → l .start ≡ endAt l index k
+  unfolding endAt
+  end-first k e = rw e
+
+  -- the end of a row by its entry
+  pub end-entry : (k : ℕ) → (k ≡ 0 → ⊥) → offsetAt l index k + lengthAt l index k ≡ endAt l index k
+  unfolding endAt
+  end-entry zero h = absurd (h refl)
+  end-entry (suc k) h = refl
+
+  -- ---- a loop over the entries: entry i + 1 starts where the last row ended, or elsewhere
+  module _ (i offset end : ℕ) (a : offset ≡ offsetAt l index (i + 1)) (e : end ≡ endAt l index i) where
+    pub entry-fine : offset ≡ end → entryWrong l index (suc i) ≡ false
+    entry-fine h =
+        let u : offsetAt l index (suc i) ≡ endAt l index i = rw (← add-one i, ← a, ← e) h in
+        rw (eq-eqb (offsetAt l index (suc i)) (endAt l index i) u)
+
+    pub entry-wrong : (offset ≡ end → ⊥) → entryWrong l index (suc i) ≡ true
+    entry-wrong h =
+        let u : offsetAt l index (suc i) ≡ endAt l index i → ⊥ = λ q. h (a ∙ ap (λ (k : ℕ). offsetAt l index k) (add-one i) ∙ q ∙ sym e) in
+        rw (ne-eqb (offsetAt l index (suc i)) (endAt l index i) u)
+
+    pub end-next : (bytes : ℕ) → bytes ≡ lengthAt l index (i + 1) → offset + bytes ≡ endAt l index (i + 1)
+    end-next bytes b = rw (a, b) (end-entry (i + 1) (λ q. omega arith))
+
+-- ---- the index judged: n is the count that it says, w the lowest entry that starts elsewhere
+module _ (l : Layout) (index : List ℕ) (size : ℕ) where
+  abbrev lastRefusal : ℕ → Refusal
+  lastRefusal n = first (refusedIf (not (eqb (endAt l index n) size)) 8 n) fine
+
+  pub index-head : headWrong l index ≡ true → refusal 8 0 ≡ indexRefusal l index size
+  unfolding indexRefusal first
+  index-head h = rw h
+
+  module _ (h : headWrong l index ≡ false) (n w : ℕ) (e : n ≡ entriesSaid l index) (q : w ≡ lowest (entryWrong l index) n) where
+    head-passes : indexRefusal l index size ≡ first (located 8 w) (lastRefusal n)
+    unfolding indexRefusal
+    head-passes =
+        first-passes (refusedIf (headWrong l index) 8 0) (first (located 8 (lowest (entryWrong l index) (entriesSaid l index))) (lastRefusal (entriesSaid l index)))
+        (ap (λ (b : Bool). refusedIf b 8 0 .number) h)
+        ∙ rw (← e, ← q)
+
+    pub index-entry : (w ≡ 0 → ⊥) → refusal 8 w ≡ indexRefusal l index size
+    index-entry z =
+        sym (head-passes ∙ first-refuses (located 8 w) (lastRefusal n) (λ u. z (located-passes 8 w (λ k. omega arith) u)) ∙ located-at 8 w z)
+
+    passes-entries : w ≡ 0 → indexRefusal l index size ≡ lastRefusal n
+    passes-entries z = head-passes ∙ first-passes (located 8 w) (lastRefusal n) (ap (λ (r : Refusal). r .number) (located-zero 8 w z))
+
+    pub index-last : w ≡ 0 → (endAt l index n ≡ size → ⊥) → refusal 8 n ≡ indexRefusal l index size
+    unfolding first
+    index-last z u = sym (passes-entries z ∙ rw (ne-eqb (endAt l index n) size u))
+
+    pub index-fine : w ≡ 0 → endAt l index n ≡ size → fine ≡ indexRefusal l index size
+    unfolding first
+    index-fine z u = sym (passes-entries z ∙ rw (eq-eqb (endAt l index n) size u))
+
+-- ---- the tests after the header's own, one after the other
+module _ (l : Layout) (index : List ℕ) (size most : ℕ) where
+  abbrev lacks : Bool
+  lacks = cond (needsIndex l) (ltb (length index) 8) false
+
+  pub open-head : lacks ≡ true → refusal 8 0 ≡ openRefusal l index size most
+  unfolding openRefusal first
+  open-head h = rw h
+
+  pub open-rows : lacks ≡ false → (rows : ℕ) → rows ≡ rowsSaid l index size → min most mostRows < rows → refusal 15 0 ≡ openRefusal l index size most
+  unfolding openRefusal first
+  open-rows h rows e u = rw (h, ← e, lt-ltb (min most mostRows) rows u)
+
+  pub open-rest : lacks ≡ false → (rows : ℕ) → rows ≡ rowsSaid l index size → rows ≤ min most mostRows → (b : Refusal) → b ≡ bodyRefusal l index size
+      → first b fine ≡ openRefusal l index size most
+  unfolding openRefusal
+  open-rest h rows e u b q =
+      sym
+      (first-passes (refusedIf lacks 8 0) (first (refusedIf (ltb (min most mostRows) (rowsSaid l index size)) 15 0) (first (bodyRefusal l index size) fine)) (ap (λ (t : Bool). refusedIf t 8 0 .number) h)
+      ∙ first-passes (refusedIf (ltb (min most mostRows) (rowsSaid l index size)) 15 0) (first (bodyRefusal l index size) fine) (ap (λ (t : Bool). refusedIf t 15 0 .number) (ap (ltb (min most mostRows)) (sym e) ∙ le-ltb (min most mostRows) rows u))
+      ∙ ap (λ (r : Refusal). first r fine) (sym q))
+
+-- ---- the answer of a header
+pub answered-accepted : (q : Refusal) → answered q ≡ Accepted → q .number ≡ 0
+answered-accepted q e =
+    bool-cases (eqb (q .number) 0) (eqb-true (q .number) 0) (λ t. clash (other (rw t at e)))
+  where
+    other : Refused q ≡ Accepted → _≡_ {A = ℕ} 0 1
+    other e = cc
+
+pub answered-refused : (q r : Refusal) → answered q ≡ Refused r → (q ≡ r) × (q .number ≡ 0 → ⊥)
+answered-refused q r e =
+    bool-cases (eqb (q .number) 0) (λ t. clash (other (rw t at e))) (λ t. (same (rw t at e), eqb-false (q .number) 0 t))
+  where
+    other : Accepted ≡ Refused r → _≡_ {A = ℕ} 0 1
+    other e = cc
+    same : Refused q ≡ Refused r → q ≡ r
+    same e = cc
+
+-- ---- what is opened: nothing on a refusal, else the table
+pub opened-refused : (q : Refusal) (t : Table) → (q .number ≡ 0 → ⊥) → record { answer = Refused q; table = noTable } ≡ openedAs q t
+opened-refused q t h = rw (ne-eqb (q .number) 0 h)
+
+pub opened-accepted : (q : Refusal) (t : Table) → q .number ≡ 0 → record { answer = Accepted; table = t } ≡ openedAs q t
+opened-accepted q t h = rw (eq-eqb (q .number) 0 h)
+
+module _ (file index : List ℕ) (most : ℕ) (h : Header) (e : h ≡ headerOf file) where
+  answer-is : h .answer ≡ answered (headerRefusal file)
+  unfolding headerOf
+  answer-is = ap (λ (h : Header). h .answer) e
+
+  pub header-refused : (q : Refusal) → h .answer ≡ Refused q → record { answer = Refused q; table = noTable } ≡ openedOf file index most
+  unfolding openedOf tableRefusal
+  header-refused q f =
+      let a = answered-refused (headerRefusal file) q (sym answer-is ∙ f) in
+      rw (first-refuses (headerRefusal file) (first (openRefusal (headerOf file .layout) index (length file) most) fine) (a .1))
+      (rw (a .0) (opened-refused q (tableFrom (headerOf file .layout) index (length file)) (λ z. a .1 (ap (λ (q : Refusal). q .number) (a .0) ∙ z))))
+
+  pub header-accepted : (r : Opened) → h .answer ≡ Accepted
+      → r ≡ openedAs (first (openRefusal (h .layout) index (length file) most) fine) (tableFrom (h .layout) index (length file)) → r ≡ openedOf file index most
+  unfolding openedOf tableRefusal
+  header-accepted r f g =
+      let z = answered-accepted (headerRefusal file) (sym answer-is ∙ f) in
+      let o : Layout → Opened = λ l. openedAs (first (openRefusal l index (length file) most) fine) (tableFrom l index (length file)) in
+      rw (first-passes (headerRefusal file) (first (openRefusal (headerOf file .layout) index (length file) most) fine) z) (g ∙ ap (λ (h : Header). o (h .layout)) e)
