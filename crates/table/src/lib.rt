@@ -566,7 +566,7 @@ pub fn read_value(file: &[u8], index: &[u8], table: Table, row: usize, column: u
 // ---- parts shown
 
 // A part of what is lent, cut where it ends.
-pub fn part<'a>(file: &'a [u8], start: usize, bytes: usize) -> &'a [u8]
+fn part<'a>(file: &'a [u8], start: usize, bytes: usize) -> &'a [u8]
     ensures { λ r. ⌜ now r ≡ take bytes (drop start (now (file .entry))) ⌝ }
 {
     if file.len() <= start {
