@@ -32,7 +32,7 @@ use Rattle.cell.specs.Numbers.{numberBy}
 use Rattle.cell.proofs.LetterLaws.{number-by}
 use Rattle.load.specs.Sources.{atPlace}
 use Rattle.load.specs.Cells.{cellIn, cellOf, EdgeColumns, SixThere}
-use Rattle.load.specs.CellPlans.{ask, slotsOf, slotFor, lettersOf, offsetsOf, walkedCells, fixedCells, edgeCells, columnCell, rowBy, columnCellBy, edgeCellBy}
+use Rattle.load.specs.CellPlans.{ask, slotsOf, slotFor, lettersOf, offsetsOf, walkedCells, fixedCells, edgeCells, columnCell}
 
 -- the six are columns that a header can have
 pub six-there : (l : Layout) (columns : List ℕ) → EdgeColumns l columns → SixThere columns
@@ -108,7 +108,7 @@ module _ (columns : List ℕ) (there : SixThere columns) where
       omega arith)
 
   -- EACH OF THE SIX COLUMNS has a slot that keeps, and that no other column has
-  pub slot-alone : (k : ℕ) → 0 < k → k ≤ 6 → Alone (slotsOf columns) (atPlace columns k)
+  slot-alone : (k : ℕ) → 0 < k → k ≤ 6 → Alone (slotsOf columns) (atPlace columns k)
   unfolding slotsOf
   slot-alone k z h = slotted-alone (asked columns 6) 7 (atPlace columns k) (slotted 6 (omega arith)) (omega arith) (there k z h .0) (has-asked 6 k (omega arith) z h)
 
@@ -148,7 +148,7 @@ module _ (s : List ℕ) (l : Layout) (start end : ℕ) (inside : outside s start
         rw (eq-eqb (l .width) 0 z, planned, slotted) (rw (only-slot k (h .0) (h .1)) at e))
         (λ z. rw (ne-eqb (l .width) 0 z, b) (fixed-place s l start end k z))
 
-    pub column-cell : columnCell (l .order) s plan slots k letter offset (l .width) start end ≡ cellIn s l start end k
+    column-cell : columnCell (l .order) s plan slots k letter offset (l .width) start end ≡ cellIn s l start end k
     unfolding columnCell
     column-cell = read-at k _ letter a place-by
 
@@ -171,7 +171,8 @@ module _ (s : List ℕ) (l : Layout) (start end : ℕ) (inside : outside s start
         let alone = slot-alone columns (six-there l columns there) (suc k) (omega arith) (omega arith) in
         let e : keptFor (plannedPlaces (l .order) s plan start end slots (l .columns)) slots c ≡ columnPlace s l start end c =
             rw (planned, slotted) (planned-place s l start end (slotsOf columns) (l .columns) c z inside (d .0) (omega (arith, d .1)) (omega (arith, d .1)) alone) in
-        front-low (λ k. numberBy (l .order) s (getD letters k 0) (keptFor (plannedPlaces (l .order) s plan start end slots (l .columns)) slots (getD columns k 0)) end) 6 (replicate 6 0) k one
+        let at = plannedPlaces (l .order) s plan start end slots (l .columns) in
+        front-low (λ k. numberBy (l .order) s (getD letters k 0) (keptFor at slots (getD columns k 0)) end) 6 (replicate 6 0) k one
         ∙ read-at c _ (getD letters k 0) letter-at e
 
     fixed-cell : (l .width ≡ 0 → ⊥) → getD (fixedCells (l .order) s letters offsets start end) k 0 ≡ cellIn s l start end (getD columns k 0)
@@ -187,7 +188,22 @@ module _ (s : List ℕ) (l : Layout) (start end : ℕ) (inside : outside s start
         (λ z. rw (eq-eqb (l .width) 0 z) (walked-cell z))
         (λ z. rw (ne-eqb (l .width) 0 z) (fixed-cell z))
 
--- ---- a turn of a writing loop, which goes by plain numbers alone
+-- ---- a writing loop, which goes by plain numbers alone
+
+-- what f says of the row i + 1, by where it starts and ends
+abbrev pub rowBy : Order → List ℕ → ℕ → ℕ → (ℕ → ℕ → ℕ) → ℕ → ℕ
+rowBy o index first width f i = f (boundBy o index first width i) (boundBy o index first width (suc i))
+
+-- what a writing loop puts at i: the cell of one column, and that of place k + 1 of the six
+abbrev pub columnCellBy : Order → List ℕ → List ℕ → ℕ → ℕ → List ℕ → List ℕ → ℕ → ℕ → ℕ → ℕ → ℕ
+columnCellBy o s index first width plan slots column letter offset =
+    rowBy o index first width (λ start end. columnCell o s plan slots column letter offset width start end)
+
+abbrev pub edgeCellBy : Order → List ℕ → List ℕ → ℕ → ℕ → List ℕ → List ℕ → List ℕ → List ℕ → List ℕ → ℕ → ℕ → ℕ → ℕ
+edgeCellBy o s index first width plan slots letters offsets columns n k =
+    rowBy o index first width (λ start end. getD (edgeCells o s plan slots letters offsets columns n width start end) k 0)
+
+-- a turn of the loop
 module _ (o : Order) (index : List ℕ) (first width rows i start end : ℕ) (few : rows ≤ mostRows) (more : i < rows)
     (from : start ≡ boundBy o index first width i) (to : end ≡ boundBy o index first width (min (i + 1) mostRows)) where
   -- where the row ends, and the next starts
@@ -215,29 +231,32 @@ module _ (file index : List ℕ) (l : Layout) (rows : ℕ) (judged : None (refus
   unfolding rowRefusal
   row-inside i more =
       let z = ltb-false 0 (rowJudged file index l (suc i) .number) (judged .fails (suc i) (omega arith) more) in
-      let q = both (placeRefusal file l (boundOf l index i) (boundOf l index (suc i)) (suc i)) (fieldsRefusal file l (boundOf l index i) (boundOf l index (suc i)) (suc i)) (omega arith) in
-      place-fine file l (boundOf l index i) (boundOf l index (suc i)) (suc i) _ refl (q .0) .0
+      let start = boundOf l index i in
+      let end = boundOf l index (suc i) in
+      let q = both (placeRefusal file l start end (suc i)) (fieldsRefusal file l start end (suc i)) (omega arith) in
+      place-fine file l start end (suc i) _ refl (q .0) .0
 
   -- of one column
-  pub column-written : (k : ℕ) → noSuchColumn l k ≡ false → (slots : List ℕ) → slots ≡ slotFor k → (letter offset : ℕ) → letter ≡ letterOf (columnAt l k .kind)
-      → offset ≡ columnAt l k .offset → (i : ℕ) (d e : List ℕ) → i ≡ rows → e ≡ front (columnCellBy (l .order) file index (l .start) (l .width) plan slots k letter offset) i d
-      → e ≡ front (cellOf file index l k) rows d
+  pub column-written : (k : ℕ) → noSuchColumn l k ≡ false → (slots : List ℕ) → slots ≡ slotFor k → (letter offset : ℕ)
+      → letter ≡ letterOf (columnAt l k .kind) → offset ≡ columnAt l k .offset → (i : ℕ) (d e : List ℕ) → i ≡ rows
+      → e ≡ front (columnCellBy (l .order) file index (l .start) (l .width) plan slots k letter offset) i d → e ≡ front (cellOf file index l k) rows d
   unfolding cellOf
   column-written k there slots a letter offset b c i d e all h =
-      let cell : (j : ℕ) → j < rows → columnCellBy (l .order) file index (l .start) (l .width) plan slots k letter offset j ≡ cellOf file index l k j =
-          λ j more. rw (bound-by file index l j, bound-by file index l (suc j))
+      let put = columnCellBy (l .order) file index (l .start) (l .width) plan slots k letter offset in
+      let cell : (j : ℕ) → j < rows → put j ≡ cellOf file index l k j =
+          λ j more. rw (bound-by index l j, bound-by index l (suc j))
           (column-cell file l (boundOf l index j) (boundOf l index (suc j)) (row-inside j more) plan planned k there slots a letter offset b c) in
-      h ∙ rw all (front-ext (columnCellBy (l .order) file index (l .start) (l .width) plan slots k letter offset) (cellOf file index l k) rows d cell)
+      h ∙ rw all (front-ext put (cellOf file index l k) rows d cell)
 
   -- and of the six, by their places
-  pub edge-written : (columns slots letters offsets : List ℕ) → EdgeColumns l columns → slots ≡ slotsOf columns → letters ≡ lettersOf l columns → offsets ≡ offsetsOf l columns
-      → (k : ℕ) → k < 6 → (i : ℕ) (d e : List ℕ) → i ≡ rows
+  pub edge-written : (columns slots letters offsets : List ℕ) → EdgeColumns l columns → slots ≡ slotsOf columns → letters ≡ lettersOf l columns
+      → offsets ≡ offsetsOf l columns → (k : ℕ) → k < 6 → (i : ℕ) (d e : List ℕ) → i ≡ rows
       → e ≡ front (edgeCellBy (l .order) file index (l .start) (l .width) plan slots letters offsets columns (l .columns) k) i d
       → e ≡ front (cellOf file index l (atPlace columns (suc k))) rows d
   unfolding cellOf
   edge-written columns slots letters offsets there a b c k one i d e all h =
-      let cell : (j : ℕ) → j < rows → edgeCellBy (l .order) file index (l .start) (l .width) plan slots letters offsets columns (l .columns) k j ≡ cellOf file index l (atPlace columns (suc k)) j =
-          λ j more. rw (bound-by file index l j, bound-by file index l (suc j))
+      let put = edgeCellBy (l .order) file index (l .start) (l .width) plan slots letters offsets columns (l .columns) k in
+      let cell : (j : ℕ) → j < rows → put j ≡ cellOf file index l (atPlace columns (suc k)) j =
+          λ j more. rw (bound-by index l j, bound-by index l (suc j))
           (edge-cell file l (boundOf l index j) (boundOf l index (suc j)) (row-inside j more) plan planned columns slots letters offsets there a b c k one) in
-      h ∙ rw all
-      (front-ext (edgeCellBy (l .order) file index (l .start) (l .width) plan slots letters offsets columns (l .columns) k) (cellOf file index l (atPlace columns (suc k))) rows d cell)
+      h ∙ rw all (front-ext put (cellOf file index l (atPlace columns (suc k))) rows d cell)

@@ -1,7 +1,7 @@
 -- The cells of a row by plain numbers, which are taken from the layout once for all rows. That these are its cells is proved in CellLaws.
 use mathlib.Core.Bool.{cond}
 use mathlib.Core.List.{List}
-use Prim.Native.Nat.{ℕ, suc, min, _+_, _-_}
+use Prim.Native.Nat.{ℕ, min, _+_, _-_}
 use lib.Dec.{eqb}
 use lib.ListN.{getD, set, replicate}
 use Rattle.laws.specs.Buffer.{front}
@@ -10,7 +10,7 @@ use Rattle.field.specs.Fields.{letterOf}
 use Rattle.header.specs.declared.Layout.{Layout}
 use Rattle.header.specs.Judge.{mostColumns}
 use Rattle.table.specs.Rows.{columnAt, keptFor}
-use Rattle.table.specs.Plans.{boundBy, plannedPlaces}
+use Rattle.table.specs.Plans.{plannedPlaces}
 use Rattle.cell.specs.Numbers.{numberBy}
 use Rattle.load.specs.Sources.{atPlace}
 
@@ -36,7 +36,7 @@ offsetsOf l columns = front (λ k. columnAt l (getD columns k 0) .offset) 6 (rep
 abbrev pub cellsBy : Order → List ℕ → List ℕ → (ℕ → ℕ) → ℕ → List ℕ
 cellsBy o s letters place end = front (λ k. numberBy o s (getD letters k 0) (place k) end) 6 (replicate 6 0)
 
--- those of a row that must be walked, past n columns, and those of a row of fixed width
+-- those of a row that is walked past n columns, and those of a row of fixed width
 unfoldable pub walkedCells : Order → List ℕ → List ℕ → List ℕ → List ℕ → List ℕ → ℕ → ℕ → ℕ → List ℕ
 walkedCells o s plan slots letters columns n start end =
     cellsBy o s letters (λ k. keptFor (plannedPlaces o s plan start end slots n) slots (getD columns k 0)) end
@@ -44,6 +44,7 @@ walkedCells o s plan slots letters columns n start end =
 unfoldable pub fixedCells : Order → List ℕ → List ℕ → List ℕ → ℕ → ℕ → List ℕ
 fixedCells o s letters offsets start end = cellsBy o s letters (λ k. min (start + getD offsets k 0) end) end
 
+-- the six cells of a row; `width` is 0 where it must be walked
 unfoldable pub edgeCells : Order → List ℕ → List ℕ → List ℕ → List ℕ → List ℕ → List ℕ → ℕ → ℕ → ℕ → ℕ → List ℕ
 edgeCells o s plan slots letters offsets columns n width start end =
     cond (eqb width 0) (walkedCells o s plan slots letters columns n start end) (fixedCells o s letters offsets start end)
@@ -52,16 +53,3 @@ edgeCells o s plan slots letters offsets columns n width start end =
 unfoldable pub columnCell : Order → List ℕ → List ℕ → List ℕ → ℕ → ℕ → ℕ → ℕ → ℕ → ℕ → ℕ
 columnCell o s plan slots column letter offset width start end =
     numberBy o s letter (cond (eqb width 0) (getD (plannedPlaces o s plan start end slots column) 1 0) (min (start + offset) end)) end
-
--- what f says of the row i + 1, by where it starts and ends
-abbrev pub rowBy : Order → List ℕ → ℕ → ℕ → (ℕ → ℕ → ℕ) → ℕ → ℕ
-rowBy o index first width f i = f (boundBy o index first width i) (boundBy o index first width (suc i))
-
--- what a writing loop puts at i: the cell of one column, and that of place k + 1 of the six
-abbrev pub columnCellBy : Order → List ℕ → List ℕ → ℕ → ℕ → List ℕ → List ℕ → ℕ → ℕ → ℕ → ℕ → ℕ
-columnCellBy o s index first width plan slots column letter offset =
-    rowBy o index first width (λ start end. columnCell o s plan slots column letter offset width start end)
-
-abbrev pub edgeCellBy : Order → List ℕ → List ℕ → ℕ → ℕ → List ℕ → List ℕ → List ℕ → List ℕ → List ℕ → ℕ → ℕ → ℕ → ℕ
-edgeCellBy o s index first width plan slots letters offsets columns n k =
-    rowBy o index first width (λ start end. getD (edgeCells o s plan slots letters offsets columns n width start end) k 0)

@@ -153,8 +153,8 @@ module _ (o : Order) (s plan : List ℕ) (start end : ℕ) where
   plan-next j at x e f = rw (add-one j, e, f)
 
   -- the places kept by a walk that stopped at column j + 1 are those of all n columns
-  pub plan-kept : (slots : List ℕ) (x : Reach) → ((f : ℕ → Reach) → onward x f ≡ x) → ((at : List ℕ) (k : ℕ) → keep at slots k x ≡ at) → (j n p : ℕ) (at : List ℕ)
-      → j < n → came j ≡ At p → x ≡ codeEnd o s end (getD plan j 0) p → at ≡ keptBy came slots (j + 1) → at ≡ keptBy came slots n
+  pub plan-kept : (slots : List ℕ) (x : Reach) → ((f : ℕ → Reach) → onward x f ≡ x) → ((at : List ℕ) (k : ℕ) → keep at slots k x ≡ at)
+      → (j n p : ℕ) (at : List ℕ) → j < n → came j ≡ At p → x ≡ codeEnd o s end (getD plan j 0) p → at ≡ keptBy came slots (j + 1) → at ≡ keptBy came slots n
   plan-kept slots x h z j n p at a e f g =
       let so = stays-so came (λ n p. codeEnd o s end (getD plan n 0) p) (λ n. refl) x h (j + 1) (plan-next j p x e f) in
       g ∙ sym (kept-stays came slots x z (j + 1) so n (omega arith))
@@ -239,7 +239,7 @@ pub walked-entry : (o : Order) (index : List ℕ) (first k : ℕ) → (k ≡ 0 �
 walked-entry o index first zero h = absurd (h refl)
 walked-entry o index first (suc k) h = refl
 
-module _ (s index : List ℕ) (l : Layout) where
+module _ (index : List ℕ) (l : Layout) where
   bound-fixed : (l .width ≡ 0 → ⊥) → (k : ℕ) → boundOf l index k ≡ fixedBound (l .start) (l .width) k
   unfolding boundOf
   bound-fixed z k = rw (ne-eqb (l .width) 0 z)
@@ -258,17 +258,20 @@ module _ (s index : List ℕ) (l : Layout) where
   unfolding boundBy boundOf
   bound-by k = bool-cases (eqb (l .width) 0) (λ t. rw t (end-walked k)) (λ t. rw t)
 
+module _ (s index : List ℕ) (l : Layout) where
   -- THE ROWS OF ONE WIDTH, and those with an index: the lowest that is refused is the same
   pub fixed-rows : (l .width ≡ 0 → ⊥) → (n : ℕ) (missing : Bool) (offset : ℕ) → missing ≡ noSuchColumn l (l .id) → offset ≡ idOffset l
       → lowestOf (fixedAt (l .order) s missing offset (l .start) (l .width)) n ≡ lowestOf (rowJudged s index l) n
   fixed-rows z n missing offset a b =
       let e : (i : ℕ) → fixedAt (l .order) s missing offset (l .start) (l .width) i ≡ rowJudged s index l i =
-          λ i. rw (a, b, bound-fixed z (pred i), bound-fixed z i) (fixed-row s l (fixedBound (l .start) (l .width) (pred i)) (fixedBound (l .start) (l .width) i) i z) in
+          λ i. rw (a, b, bound-fixed index l z (pred i), bound-fixed index l z i)
+          (fixed-row s l (fixedBound (l .start) (l .width) (pred i)) (fixedBound (l .start) (l .width) i) i z) in
       ap (λ (f : ℕ → Refusal). lowestOf f n) (λ t i. e i t)
 
   pub walked-rows : l .width ≡ 0 → (n columns : ℕ) (plan : List ℕ) → columns ≡ columnsOf l → plan ≡ planOf l
       → lowestOf (walkedAt (l .order) s index plan columns (l .id) (l .start)) n ≡ lowestOf (rowJudged s index l) n
   walked-rows z n columns plan a b =
       let e : (i : ℕ) → walkedAt (l .order) s index plan columns (l .id) (l .start) i ≡ rowJudged s index l i =
-          λ i. rw (a, b, bound-walked z (pred i), bound-walked z i) (planned-row s l (walkedBound (l .order) index (l .start) (pred i)) (walkedBound (l .order) index (l .start) i) i z) in
+          λ i. rw (a, b, bound-walked index l z (pred i), bound-walked index l z i)
+          (planned-row s l (walkedBound (l .order) index (l .start) (pred i)) (walkedBound (l .order) index (l .start) i) i z) in
       ap (λ (f : ℕ → Refusal). lowestOf f n) (λ t i. e i t)

@@ -208,7 +208,7 @@ pub fn judge_rows(file: &[u8], index: &[u8], table: Table) -> Refusal
     judge_fixed(file, index, layout, n)
 }
 
-// ---- rows that are judged already
+// ---- where rows lie, and their columns
 
 // The end of row k, and the start of row k + 1; past the millionth row, its end. `width` is 0 where the rows have an index.
 pub fn bound_by(index: &[u8], order: Order, first: u32, width: u32, k: usize) -> usize

@@ -16,7 +16,7 @@ returns c =
     let s = (c .before .before .args) in
     let l = s .layout in
     let q : min (s .k) mostRows ≡ s .k = omega arith in
-    (c .bound-by) .ensures ∙ ap (boundBy (l .order) (s .index .now) (l .start) (l .width)) q ∙ bound-by (s .index .now) (s .index .now) l (s .k)
+    (c .bound-by) .ensures ∙ ap (boundBy (l .order) (s .index .now) (l .start) (l .width)) q ∙ bound-by (s .index .now) l (s .k)
 
 pub bound-of-spec : {M : Type 1} → statement M
 bound-of-spec = tie.close (tie.spec bound-by-requires returns)

@@ -1,5 +1,4 @@
-use Rattle.load.proofs.CellLaws.{ends-at, one-from, column-written}
-use Rattle.load.specs.CellPlans.{columnCellBy}
+use Rattle.load.proofs.CellLaws.{columnCellBy, ends-at, one-from, column-written}
 use Rattle.table.proofs.FoundLaws.{column-there}
 use Rattle.table.proofs.PlanLaws.{bound-first}
 use Rattle.table.specs.Plans.{boundBy}

@@ -1,5 +1,4 @@
-use Rattle.load.proofs.CellLaws.{six-there, ends-at, six-from, edge-written}
-use Rattle.load.specs.CellPlans.{edgeCellBy}
+use Rattle.load.proofs.CellLaws.{edgeCellBy, six-there, ends-at, six-from, edge-written}
 use Rattle.table.proofs.PlanLaws.{bound-first}
 use Rattle.table.specs.Plans.{boundBy}
 use Rattle.laws.proofs.BufferLaws.{front-next}
