@@ -24,6 +24,7 @@ const SIX: usize = 6;
 // The slot of a walk that looks for one column.
 const ONLY_SLOT: usize = 1;
 
+// That slot for the column.
 fn slot_for(column: usize) -> [usize; 64]
     requires { ⌜ (0 < column) × (column ≤ mostColumns) ⌝ }
     ensures { λ r. ⌜ r ≡ slotFor column ⌝ }
