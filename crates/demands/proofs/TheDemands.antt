@@ -21,6 +21,7 @@ use Rattle.load.specs.Sources.{Files}
 use Rattle.load.specs.Load.{loadOf}
 use Rattle.load.proofs.LoadedExactly as load
 use Rattle.load.proofs.WhatIsWritten.{element-is-value, rest-as-it-was}
+use Rattle.tile.specs.Columns.{sides}
 use Rattle.tile.specs.Walk.{ringSteps}
 use Rattle.tile.proofs.AcceptedExactly as check
 use Rattle.tile.proofs.RefusedExactly as tile
@@ -29,9 +30,10 @@ use Rattle.report.specs.declared.Sizes.{Sizes}
 use Rattle.report.specs.declared.TooLarge.{TooLarge}
 use Rattle.report.specs.Files.{mostRows}
 use Rattle.directory.specs.declared.Outcome.the-variants.{Accepted}
-use Rattle.directory.specs.Outcome.{tileSaid, loadedAs, sizedAs, loadedOf, outcomeOf}
+use Rattle.directory.specs.Outcome.{tileSaid, loadedAs, sizedAs, loadedOf, outcomeOf, allSteps}
 use Rattle.directory.specs.Words.{AcceptedWith}
 use Rattle.directory.proofs.OutcomeLaws.{held-said}
+use Rattle.directory.proofs.StepLaws.{told-adds-up}
 use Rattle.directory.proofs.VerdictOfTile as directory
 use Rattle.demands.specs.Demands.{Demand1, Demand2, Demand3, DirectoryWalked}
 use Rattle.demands.proofs.NumbersNamed as numbers
@@ -144,6 +146,9 @@ module _ (z : Sizes) (cnxRead : Bool) (f : Files) (lengths marks : List ℕ) (c 
             held-said z cnxRead f lengths c load-answered (Accepted c) refl sn en rf lf re le rp fi se fe _ _ _ _ _ _ _ _ _ _ refl refl refl refl refl refl refl refl refl refl;
         walks = w;
         steps = ap (sum (ringSteps (tileSaid f))) (sym rings) ∙ w .adds-up ∙ ap (λ (n : ℕ). 2 * n) edges;
+        told = λ space h.
+            let twice : sides (tileSaid f) ≡ 2 * c .edges = ap (λ (n : ℕ). 2 * n) edges in
+            ap (allSteps (tileSaid f) space) (sym rings) ∙ told-adds-up (tileSaid f) marks w space (rw twice h) ∙ twice;
       }
 
 pub demand-3 : Demand3

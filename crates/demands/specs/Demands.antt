@@ -62,7 +62,7 @@ use Rattle.tile.specs.Demand.{Demand3 as Walked}
 use Rattle.report.specs.declared.Sizes.{Sizes}
 use Rattle.directory.specs.declared.Named.{Named}
 use Rattle.directory.specs.declared.Outcome.the-variants as outcome
-use Rattle.directory.specs.Outcome.{tileSaid, held, loadedOf, columnAfter, checkedAs, outcomeOf}
+use Rattle.directory.specs.Outcome.{tileSaid, held, loadedOf, columnAfter, checkedAs, outcomeOf, allSteps}
 use Rattle.directory.specs.Words as directory
 
 -- ======== DEMAND 1
@@ -250,6 +250,8 @@ pub record DirectoryWalked (z : Sizes) (cnxRead : Bool) (f : Files) (lengths mar
   -- demand 3 holds of it, and so the steps of all its ring rows add up to twice the edges
   pub walks : Walked (tileSaid f) marks
   pub steps : sum (ringSteps (tileSaid f)) (c .rings) ≡ 2 * c .edges
+  -- and so do the answers of the walks themselves, which the program adds up, given room for each
+  pub told : (space : ℕ) → 2 * c .edges ≤ space → allSteps (tileSaid f) space (c .rings) ≡ 2 * c .edges
 
 pub record Demand3 : Type 0 where
   pub tiles : (t : Tile) (marks : List ℕ) → verdictOf t (length marks) ≡ verdict.Accepted → Walked t marks

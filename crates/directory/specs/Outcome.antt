@@ -4,6 +4,7 @@ use mathlib.Core.Bool.{Bool, cond}
 use mathlib.Core.List.{List, []}
 use Prim.Native.Nat.{ℕ}
 use lib.ListN.{take}
+use Rattle.laws.specs.Sums.{sum}
 use Rattle.laws.specs.Buffer.{listed}
 use Rattle.refusal.specs.declared.Refusal.{Refusal}
 use Rattle.refusal.specs.Order.{refusal}
@@ -11,7 +12,10 @@ use Rattle.side.specs.Edges.{edges}
 use Rattle.tile.specs.Columns.{Tile, tile, F}
 use Rattle.tile.specs.declared.Verdict.{Verdict}
 use Rattle.tile.specs.declared.Verdict.the-variants as verdict
+use Rattle.tile.specs.declared.Walked.{Walked}
+use Rattle.tile.specs.declared.Walked.the-variants as walked
 use Rattle.tile.specs.Check.{verdictOf}
+use Rattle.tile.specs.Walk.{walkOf}
 use Rattle.load.specs.declared.TableName.{TableName}
 use Rattle.load.specs.declared.TableName.the-variants.{Edg, Fac, Rng, Cnd}
 use Rattle.load.specs.declared.Counts.{Counts}
@@ -92,3 +96,14 @@ thenChecked (Refused w) t space = Refused w
 -- THE OUTCOME for a directory: the tile that its files say, loaded, then checked
 unfoldable pub outcomeOf : Sizes → Bool → Files → List ℕ → ℕ → Outcome
 outcomeOf z cnxRead f lengths space = thenChecked (loadedOf z cnxRead f lengths) (tileSaid f) space
+
+-- ---- walked
+
+-- the steps that a walk answers with: none of one that is refused
+abbrev pub stepsOf : Walked → ℕ
+stepsOf (walked.Steps n) = n
+stepsOf (walked.Refused q) = 0
+
+-- the steps of the ring rows 1..n together, each walked into an output of so much space
+abbrev pub allSteps : Tile → ℕ → ℕ → ℕ
+allSteps t space n = sum (λ r. stepsOf (walkOf t r space)) n

@@ -10,11 +10,11 @@ use report::LINE_ROOM;
 use report::MOST_ROWS;
 use tile::Walked;
 ghost use mathlib.Core.Path.{_≡_};
-ghost use Prim.Native.Nat.{_*_};
+ghost use Prim.Native.Nat.{_*_, _≤_};
 ghost use lib.ListN.{length, replicate};
 ghost use Rattle.load.specs.Load.{lengthsOf};
 ghost use Rattle.report.specs.Files.{mostRows, showsTriplet};
-ghost use Rattle.directory.specs.Outcome.{filesRead, outcomeOf};
+ghost use Rattle.directory.specs.Outcome.{filesRead, held, outcomeOf, stepsOf, allSteps};
 
 // Two sides to an edge.
 const MOST_SIDES: usize = 2000;
@@ -58,25 +58,13 @@ fn say_steps(all: usize) {
 }
 
 // The steps of a walk. In an accepted tile every walk has them.
-fn steps_of(walked: Walked) -> usize {
+fn steps_of(walked: Walked) -> usize
+    ensures { λ r. ⌜ r ≡ stepsOf walked ⌝ }
+{
     match walked {
         Walked::Steps(n) => n,
         Walked::Refused(_) => 0,
     }
-}
-
-// No sum of steps that can occur is greater.
-const MOST_STEPS: usize = 1000000000;
-
-// Adds up steps. The steps of an accepted tile are twice its edges, so that nothing is ever cut.
-fn add(a: usize, b: usize) -> usize {
-    if MOST_STEPS < a {
-        return a;
-    }
-    if MOST_STEPS < b {
-        return a;
-    }
-    a + b
 }
 
 // The rings of a loaded tile, row after row: the steps of all.
@@ -92,7 +80,10 @@ fn say_rings(
     fac_id: &[u32; MOST_ROWS],
     start_edge: &[u32; MOST_ROWS],
     first_edge: &[u32; MOST_ROWS],
-) -> usize {
+) -> usize
+    requires { ⌜ counts .rings ≤ mostRows ⌝ }
+    ensures { λ r. ⌜ r ≡ allSteps (held counts (now («start_node» .entry)) (now («end_node» .entry)) (now («right_face» .entry)) (now («left_face» .entry)) (now («right_edge» .entry)) (now («left_edge» .entry)) (now («ring_ptr» .entry)) (now («fac_id» .entry)) (now («start_edge» .entry)) (now («first_edge» .entry))) (2 * mostRows) (counts .rings) ⌝ }
+{
     let mut sides = [0u32; MOST_SIDES];
     let rings = counts.rings;
     let mut all: usize = 0;
@@ -101,7 +92,7 @@ fn say_rings(
         let row = i + 1;
         let steps = steps_of(directory::walk_ring(counts, start_node, end_node, right_face, left_face, right_edge, left_edge, ring_ptr, fac_id, start_edge, first_edge, row, &mut sides));
         say_ring(row, side::row(fac_id, row), steps);
-        all = add(all, steps);
+        all = all + steps;
         i = row;
     }
     all

@@ -1,3 +1,4 @@
+use Rattle.directory.proofs.StepLaws.{rings-few}
 use Rattle.report.specs.Files.{showsTriplet}
 use Rattle.directory.specs.Outcome.{filesRead}
 use Rattle.teller.proofs.TellerLaws.{own-outcome}
@@ -64,7 +65,9 @@ say-counts-requires c κs = search needs
 
 -- src/lib.rt:158:23
 say-rings-requires : tie.Need-say-rings-requires
-say-rings-requires c κs = search needs
+say-rings-requires c κs =
+    let s = (c .before .before .before .before .before .before .before .before .before .before .before .before .before .before .before .before .before .before .before .before .before .before .before .before .before .before .before .before .before .before .before .before .before .before .before .before .before .before .before .before .before .before .before .args) in
+    rings-few (s .sizes) (showsTriplet (s .cnd .now)) (filesRead (s .edg .now) (s .edx .now) (s .fac .now) (s .rng .now) (s .cnd .now) (s .cnx .now)) _ _ _ (sym ((c .before .before .before .before .before .before .before .before .before .before .before .before .before .before .before .before .before .before .before .before .before .before .before .before .before .judge) .ensures) ∙ (c .before .before .before .before .before .before .before .before .before .before .before .before .outcome) .given .1)
 
 -- src/lib.rt:158:13
 say-steps-requires : tie.Need-say-steps-requires
