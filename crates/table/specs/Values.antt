@@ -15,6 +15,7 @@ use Rattle.triplet.specs.Triplet.{tripletOf}
 use Rattle.header.specs.declared.ColumnLayout.{ColumnLayout}
 use Rattle.opening.specs.declared.Table.{Table}
 use Rattle.table.specs.declared.Row as row
+use Rattle.table.specs.declared.Span.{Span}
 use Rattle.table.specs.declared.Value.{Value}
 use Rattle.table.specs.declared.Value.the-variants.{Short, ShortNull, Integer, IntegerNull, Float, FloatNull, Double, DoubleNull, Triplet, Text, Date, Coordinates, Empty, Refused}
 use Rattle.table.specs.Rows.{columnAt, columnPlace, rowOf, noSuchRow, noSuchColumn}
@@ -76,38 +77,25 @@ valueOf file index t i k =
     (λ start end. shown (t .layout .order) file (columnAt (t .layout) k) (columnPlace file (t .layout) start end k) end)))
 
 -- where the part of the file starts that a value shows, and how many bytes it has; none of a value that shows none
-abbrev pub shownStart : Value → ℕ
-shownStart (Text p n) = p
-shownStart (Date p n) = p
-shownStart (Coordinates p n) = p
-shownStart (Short v) = 0
-shownStart ShortNull = 0
-shownStart (Integer v) = 0
-shownStart IntegerNull = 0
-shownStart (Float b) = 0
-shownStart (FloatNull b) = 0
-shownStart (Double b) = 0
-shownStart (DoubleNull b) = 0
-shownStart (Triplet ids) = 0
-shownStart Empty = 0
-shownStart (Refused q) = 0
+abbrev pub noSpan : Span
+noSpan = record { start = 0; bytes = 0 }
 
-abbrev pub shownBytes : Value → ℕ
-shownBytes (Text p n) = n
-shownBytes (Date p n) = n
-shownBytes (Coordinates p n) = n
-shownBytes (Short v) = 0
-shownBytes ShortNull = 0
-shownBytes (Integer v) = 0
-shownBytes IntegerNull = 0
-shownBytes (Float b) = 0
-shownBytes (FloatNull b) = 0
-shownBytes (Double b) = 0
-shownBytes (DoubleNull b) = 0
-shownBytes (Triplet ids) = 0
-shownBytes Empty = 0
-shownBytes (Refused q) = 0
+abbrev pub spanOf : Value → Span
+spanOf (Text p n) = record { start = p; bytes = n }
+spanOf (Date p n) = record { start = p; bytes = n }
+spanOf (Coordinates p n) = record { start = p; bytes = n }
+spanOf (Short v) = noSpan
+spanOf ShortNull = noSpan
+spanOf (Integer v) = noSpan
+spanOf IntegerNull = noSpan
+spanOf (Float b) = noSpan
+spanOf (FloatNull b) = noSpan
+spanOf (Double b) = noSpan
+spanOf (DoubleNull b) = noSpan
+spanOf (Triplet ids) = noSpan
+spanOf Empty = noSpan
+spanOf (Refused q) = noSpan
 
 -- THE PART SHOWN; past the end of the file it is cut
 unfoldable pub partOf : List ℕ → Value → List ℕ
-partOf file v = take (shownBytes v) (drop (shownStart v) file)
+partOf file v = take (spanOf v .bytes) (drop (spanOf v .start) file)

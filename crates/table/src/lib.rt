@@ -13,7 +13,7 @@ ghost use Rattle.field.specs.Nulls.{shortHalf, integerHalf, signed};
 ghost use Rattle.opening.specs.Opening.{mostRows};
 ghost use Rattle.table.specs.Rows.{columnsOf, noSuch, noSuchColumn, outside, columnAt, boundOf, plainEnd, starEnd, tripletEnd, fieldEnd, walked, slotsFor, keptFor, foundOf, idJudged, usedUp, columnPlace, offsetPlace, fieldsRefusal, placeRefusal, rowRefusal, unlessRefused, rowOf};
 ghost use Rattle.table.specs.Plans.{fixedBound, entryEnd, walkedBound};
-ghost use Rattle.table.specs.Values.{shortOf, integerOf, floatOf, doubleOf, elementsStart, elementsBytes, tripletOfRead, shown, inRow, valueOf, shownStart, shownBytes, partOf};
+ghost use Rattle.table.specs.Values.{shortOf, integerOf, floatOf, doubleOf, elementsStart, elementsBytes, tripletOfRead, shown, inRow, valueOf, spanOf, partOf};
 
 use field::FieldType;
 use header::ColumnLayout;
@@ -53,6 +53,12 @@ pub struct Places {
 struct Found {
     refusal: Refusal,
     place: usize,
+}
+
+// A part of a file: where it starts, and how many bytes it has.
+struct Span {
+    start: usize,
+    bytes: usize,
 }
 
 pub enum Row {
@@ -579,45 +585,24 @@ fn part<'a>(file: &'a [u8], start: usize, bytes: usize) -> &'a [u8]
 }
 
 // Where the part starts that a value shows, and how many bytes it has: none of a value that shows none.
-fn shown_start(shown: Value) -> usize
-    ensures { λ r. ⌜ r ≡ shownStart shown ⌝ }
+fn span_of(shown: Value) -> Span
+    ensures { λ r. ⌜ r ≡ spanOf shown ⌝ }
 {
     match shown {
-        Value::Text(p, _) => p,
-        Value::Date(p, _) => p,
-        Value::Coordinates(p, _) => p,
-        Value::Short(_) => 0,
-        Value::ShortNull => 0,
-        Value::Integer(_) => 0,
-        Value::IntegerNull => 0,
-        Value::Float(_) => 0,
-        Value::FloatNull(_) => 0,
-        Value::Double(_) => 0,
-        Value::DoubleNull(_) => 0,
-        Value::Triplet(_) => 0,
-        Value::Empty => 0,
-        Value::Refused(_) => 0,
-    }
-}
-
-fn shown_bytes(shown: Value) -> usize
-    ensures { λ r. ⌜ r ≡ shownBytes shown ⌝ }
-{
-    match shown {
-        Value::Text(_, n) => n,
-        Value::Date(_, n) => n,
-        Value::Coordinates(_, n) => n,
-        Value::Short(_) => 0,
-        Value::ShortNull => 0,
-        Value::Integer(_) => 0,
-        Value::IntegerNull => 0,
-        Value::Float(_) => 0,
-        Value::FloatNull(_) => 0,
-        Value::Double(_) => 0,
-        Value::DoubleNull(_) => 0,
-        Value::Triplet(_) => 0,
-        Value::Empty => 0,
-        Value::Refused(_) => 0,
+        Value::Text(p, n) => Span { start: p, bytes: n },
+        Value::Date(p, n) => Span { start: p, bytes: n },
+        Value::Coordinates(p, n) => Span { start: p, bytes: n },
+        Value::Short(_) => Span { start: 0, bytes: 0 },
+        Value::ShortNull => Span { start: 0, bytes: 0 },
+        Value::Integer(_) => Span { start: 0, bytes: 0 },
+        Value::IntegerNull => Span { start: 0, bytes: 0 },
+        Value::Float(_) => Span { start: 0, bytes: 0 },
+        Value::FloatNull(_) => Span { start: 0, bytes: 0 },
+        Value::Double(_) => Span { start: 0, bytes: 0 },
+        Value::DoubleNull(_) => Span { start: 0, bytes: 0 },
+        Value::Triplet(_) => Span { start: 0, bytes: 0 },
+        Value::Empty => Span { start: 0, bytes: 0 },
+        Value::Refused(_) => Span { start: 0, bytes: 0 },
     }
 }
 
@@ -625,5 +610,6 @@ fn shown_bytes(shown: Value) -> usize
 pub fn part_of<'a>(file: &'a [u8], shown: Value) -> &'a [u8]
     ensures { λ r. ⌜ now r ≡ partOf (now (file .entry)) shown ⌝ }
 {
-    part(file, shown_start(shown), shown_bytes(shown))
+    let span = span_of(shown);
+    part(file, span.start, span.bytes)
 }
