@@ -294,11 +294,15 @@ static void some_table(made_table *t) {
     for (size_t k = chance(4) ? 2 : 1; k > 0; k--) spoil_table(t);
 }
 
+static bool same_header(vumbarete_header_answer a, vumbarete_header_answer b) {
+    return SAME_REFUSAL(a, b) && SAME(a, b, order) && SAME(a, b, start) && SAME(a, b, columns) && SAME(a, b, id) && SAME(a, b, width);
+}
+
 static void header_case(void) {
     some_table(&made);
     vumbarete_header_answer a = vumbarete_header(made.file, made.size), b = ref_header(made.file, made.size);
     note(a.number);
-    judge(SAME_REFUSAL(a, b) && SAME(a, b, order) && SAME(a, b, start) && SAME(a, b, columns) && SAME(a, b, id) && SAME(a, b, width));
+    judge(same_header(a, b));
 }
 
 static void find_column_case(void) {
@@ -343,17 +347,27 @@ static void row_case(void) {
     judge(SAME_REFUSAL(a, b) && SAME(a, b, start) && SAME(a, b, end));
 }
 
+static bool same_value(vumbarete_value_answer a, vumbarete_value_answer b) {
+    return SAME_REFUSAL(a, b) && SAME(a, b, kind) && SAME(a, b, short_) && SAME(a, b, integer) && SAME(a, b, bits) && SAME(a, b, id) &&
+           SAME(a, b, tile) && SAME(a, b, other) && SAME(a, b, start) && SAME(a, b, bytes);
+}
+
 static void value_case(void) {
     some_table(&made);
     size_t row = some_row(), column = some_column();
     vumbarete_value_answer a = vumbarete_value(MADE, row, column), b = ref_value(MADE, row, column);
     note(a.number);
-    judge(SAME_REFUSAL(a, b) && SAME(a, b, kind) && SAME(a, b, short_) && SAME(a, b, integer) && SAME(a, b, bits) && SAME(a, b, id) &&
-          SAME(a, b, tile) && SAME(a, b, other) && SAME(a, b, start) && SAME(a, b, bytes));
+    judge(same_value(a, b));
 }
 
 /* the same bits, so that 0.0 and -0.0 differ */
 #define SAME_BITS(a, b, member) (memcmp(&(a).member, &(b).member, sizeof(a).member) == 0)
+
+static bool same_rectangle(vumbarete_rectangle_answer a, vumbarete_rectangle_answer b) {
+    return SAME_REFUSAL(a, b) && SAME(a, b, width) && SAME_BITS(a, b, short_least_x) && SAME_BITS(a, b, short_least_y) &&
+           SAME_BITS(a, b, short_greatest_x) && SAME_BITS(a, b, short_greatest_y) && SAME_BITS(a, b, least_x) && SAME_BITS(a, b, least_y) &&
+           SAME_BITS(a, b, greatest_x) && SAME_BITS(a, b, greatest_y);
+}
 
 static void rectangle_case(void) {
     some_table(&made);
@@ -364,9 +378,7 @@ static void rectangle_case(void) {
     }
     vumbarete_rectangle_answer a = vumbarete_rectangle(MADE, row, column), b = ref_rectangle(MADE, row, column);
     note(a.number);
-    judge(SAME_REFUSAL(a, b) && SAME(a, b, width) && SAME_BITS(a, b, short_least_x) && SAME_BITS(a, b, short_least_y) &&
-          SAME_BITS(a, b, short_greatest_x) && SAME_BITS(a, b, short_greatest_y) && SAME_BITS(a, b, least_x) && SAME_BITS(a, b, least_y) &&
-          SAME_BITS(a, b, greatest_x) && SAME_BITS(a, b, greatest_y));
+    judge(same_rectangle(a, b));
 }
 
 /* ---- tiles */
@@ -635,6 +647,72 @@ static void load_case(void) {
     drop_tile(&m);
 }
 
+/* every slice empty, and lent by a null pointer through the header file's `vumbarete_lend_..`: each entry point once, and those over tables
+ * once more with a table of fixed width, whose index is empty */
+
+#define NO_BYTES vumbarete_lend_bytes(NULL, 0), 0
+#define NO_NUMBERS vumbarete_lend_numbers(NULL, 0), 0
+#define NO_COLUMN vumbarete_lend_column(NULL, 0), 0
+#define NO_TILE NO_NUMBERS, NO_NUMBERS, NO_NUMBERS, NO_NUMBERS, NO_NUMBERS, NO_NUMBERS, NO_NUMBERS, NO_NUMBERS, NO_NUMBERS, NO_NUMBERS
+#define NO_COLUMNS NO_COLUMN, NO_COLUMN, NO_COLUMN, NO_COLUMN, NO_COLUMN, NO_COLUMN, NO_COLUMN, NO_COLUMN, NO_COLUMN, NO_COLUMN
+
+static void empty_over(const uint8_t *file, size_t size) {
+    static const uint8_t none[1];
+    judge(same_header(vumbarete_header(vumbarete_lend_bytes(file, size), size), ref_header(file, size)));
+    judge(vumbarete_find_column(vumbarete_lend_bytes(file, size), size, NO_BYTES) == ref_find_column(file, size, none, 0));
+    judge(same_table(vumbarete_open(vumbarete_lend_bytes(file, size), size, NO_BYTES), ref_open(file, size, none, 0)));
+    judge(same_table(vumbarete_judge_rows(vumbarete_lend_bytes(file, size), size, NO_BYTES), ref_judge_rows(file, size, none, 0)));
+    vumbarete_row_answer a = vumbarete_row(vumbarete_lend_bytes(file, size), size, NO_BYTES, 1), b = ref_row(file, size, none, 0, 1);
+    judge(SAME_REFUSAL(a, b) && SAME(a, b, start) && SAME(a, b, end));
+    judge(same_value(vumbarete_value(vumbarete_lend_bytes(file, size), size, NO_BYTES, 1, 1), ref_value(file, size, none, 0, 1, 1)));
+    judge(same_rectangle(vumbarete_rectangle(vumbarete_lend_bytes(file, size), size, NO_BYTES, 1, 1), ref_rectangle(file, size, none, 0, 1, 1)));
+}
+
+static void empty(void) {
+    static uint8_t none[1];
+    static uint32_t no_numbers[1];
+    unsigned long before = failed, so_far = passed + failed;
+    entry = "empty";
+    case_seed = 0;
+
+    vumbarete_height_answer h = vumbarete_height(NO_BYTES), rh = ref_height(none, 0);
+    judge(SAME_REFUSAL(h, rh) && SAME(h, rh, thousandths));
+    vumbarete_passes_answer p = vumbarete_passes(NO_BYTES, NO_BYTES), rp = ref_passes(none, 0, none, 0);
+    judge(SAME_REFUSAL(p, rp) && SAME(p, rp, passes));
+    vumbarete_triplet_answer t = vumbarete_triplet(NO_BYTES, false), rt = ref_triplet(none, 0, false);
+    judge(SAME_REFUSAL(t, rt) && SAME(t, rt, id) && SAME(t, rt, tile) && SAME(t, rt, other) && SAME(t, rt, bytes));
+    vumbarete_written_answer w = vumbarete_write_triplet(vumbarete_lend_row(NULL, 0), 0, 0, 1, 2, 3, true), rw = ref_write_triplet(none, 0, 0, 1, 2, 3, true);
+    judge(SAME_REFUSAL(w, rw) && SAME(w, rw, bytes));
+
+    empty_over(NULL, 0);
+    begin_table(&made, 'L', "", "-");
+    add_column(&made, "id", 'I', "1", 'P', "");
+    end_header(&made);
+    size_t begin = made.size;
+    add_number(&made, 1, 4);
+    end_row(&made, begin);
+    end_table(&made, true);
+    empty_over(made.file, made.size);
+
+    table_files files[4] = {{none, none, 0, 0}, {none, none, 0, 0}, {none, none, 0, 0}, {none, none, 0, 0}};
+    uint32_t *columns[10];
+    size_t space[10] = {0};
+    for (int i = 0; i < 10; i++) columns[i] = no_numbers;
+    vumbarete_loaded l = vumbarete_load(NO_BYTES, NO_BYTES, NO_BYTES, NO_BYTES, NO_BYTES, NO_BYTES, NO_BYTES, NO_BYTES, 1000, NO_COLUMNS);
+    vumbarete_loaded rl = ref_load(files, 1000, columns, space);
+    judge(SAME_REFUSAL(l, rl) && SAME(l, rl, table) && SAME(l, rl, edges) && SAME(l, rl, faces) && SAME(l, rl, rings) && SAME(l, rl, nodes));
+
+    made_tile m;
+    new_tile(&m, 0, 0, 0, 0);
+    tile32 tile = lent(&m);
+    vumbarete_verdict v = vumbarete_check(NO_TILE, NO_COLUMN), rv = ref_check(&tile, no_numbers, 0);
+    judge(SAME_REFUSAL(v, rv));
+    vumbarete_steps s = vumbarete_walk(NO_TILE, 1, NO_COLUMN), rs = ref_walk(&tile, 1, no_numbers, 0);
+    judge(SAME_REFUSAL(s, rs) && SAME(s, rs, steps));
+    drop_tile(&m);
+    printf("%-16s %lu cases, %lu differences\n", entry, passed + failed - so_far, failed - before);
+}
+
 static void run(const char *name, void (*one)(void), unsigned long cases, uint64_t seed) {
     unsigned long before = failed;
     entry = name;
@@ -668,6 +746,7 @@ int main(int argc, char **argv) {
     run("check", check_case, cases, seed);
     run("walk", walk_case, cases, seed);
     limits();
+    empty();
     printf("%lu passed, %lu failed\n", passed, failed);
     return failed != 0;
 }

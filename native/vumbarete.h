@@ -1,18 +1,49 @@
 /* The operations of the Vumbarete archive (libabi.a) for C.
  *
- * Every function takes any bytes and any numbers: nothing is asked of the caller but that a pointer and the length after it describe
- * memory that may be read (or written, where it is not const), that no buffer that is written overlaps another argument, and that no
- * pointer is null (of a slice of length 0 any other pointer will do). Each function is proved to answer as its comment says, to end, and
- * to touch nothing else.
+ * Every function takes any bytes and any numbers, is proved to answer as its comment says, to end, and to touch nothing outside its
+ * buffers. A slice is a pointer and, after it, its length in elements. Asked of the caller is only what no function can test of one:
+ *   - The memory is there, may be read (and written, where the pointer is not const), and nothing else writes it during the call.
+ *   - An array of uint32_t is aligned as C aligns one. Bytes may stand anywhere.
+ *   - No two lent buffers overlap, unless both are only read.
+ *   - No pointer is null, not even that of a slice of length 0, for which any other aligned pointer will do: that the compiled code takes
+ *     a null one is promised nowhere. A caller whose empty slices may be null lends them by `vumbarete_lend_bytes`,
+ *     `vumbarete_lend_row`, `vumbarete_lend_numbers` and `vumbarete_lend_column` below, which never hand one on.
+ *   - A bool is true or false.
  *
- * Every answer begins with a refusal: `number` 0 says that nothing is refused; else `number` and `place` are those of document 01's
- * table, all other members are 0, and no lent element was changed, unless the comment says otherwise. */
+ * Every answer but one is a struct that begins with a refusal: `number` 0 says that nothing is refused, and `place` is 0 then; else `number`
+ * and `place` are those of document 01's table, and every other member is 0, save `table` of a refused load, which says of which of the
+ * four tables it speaks. A refusal changes no lent element, save that refusals 20 to 31 of `vumbarete_check` set the first 2E marks to zero.
+ * The one other answer is `vumbarete_find_column`'s: a number alone, 0 for none. It refuses nothing. */
 #ifndef VUMBARETE_H
 #define VUMBARETE_H
 
 #include <stdbool.h>
 #include <stddef.h>
 #include <stdint.h>
+
+/* ---- empty slices: the pointer of a slice of this length, and of a slice of length 0 one that is not null */
+
+static inline const uint8_t *vumbarete_lend_bytes(const uint8_t *bytes, size_t length) {
+    static const uint8_t none = 0;
+    return length ? bytes : &none;
+}
+
+/* to be written */
+static inline uint8_t *vumbarete_lend_row(uint8_t *row, size_t length) {
+    static uint8_t none;
+    return length ? row : &none;
+}
+
+static inline const uint32_t *vumbarete_lend_numbers(const uint32_t *numbers, size_t length) {
+    static const uint32_t none = 0;
+    return length ? numbers : &none;
+}
+
+/* to be written */
+static inline uint32_t *vumbarete_lend_column(uint32_t *column, size_t length) {
+    static uint32_t none;
+    return length ? column : &none;
+}
 
 /* ---- wave heights */
 
@@ -140,7 +171,7 @@ typedef struct {
 /* Judges the header of a table file: 1, 2, 1, 15, 3, 4, 5, 6 in document 01's order. */
 vumbarete_header_answer vumbarete_header(const uint8_t *file, size_t file_length);
 
-/* The column of a name, letters of either case, from 1; 0 where there is none or the header is refused. */
+/* The column of a name, letters of either case, from 1; 0 where there is none or the header is refused (`vumbarete_header` says which). */
 size_t vumbarete_find_column(const uint8_t *file, size_t file_length, const uint8_t *name, size_t name_length);
 
 /* Opens a table: the header's refusals, then 8 at 0 for a needed index under 8 bytes, 15, 7 or 8. */
@@ -178,7 +209,7 @@ typedef struct {
     uint32_t number;
     size_t place;
     uint32_t table; /* the table that a refusal speaks of: 1 edg, 2 fac, 3 rng, 4 cnd; 0 where nothing is refused */
-    size_t edges;   /* the rows of the four tables: how many elements of its columns were written */
+    size_t edges;   /* the rows of the four tables: how many elements of its columns were written; 0, all four, on a refusal */
     size_t faces;
     size_t rings;
     size_t nodes;
@@ -187,7 +218,8 @@ typedef struct {
 /* Loads a tile from four tables and their indexes, of which the caller takes at most `most` rows each (and never over 1,000,000): opens
  * them in turn; then 17 by place (start_node 1 to first_edge 10); 15 for no face, for no ring; 14 by place with the length that is needed;
  * then the rows, table by table; and only then writes each column's numbers from its first element on. From a triplet the id is taken;
- * absent, null and negative numbers are 0. Elements past the rows are unchanged. */
+ * absent, null and negative numbers are 0. Elements past the rows are unchanged. On a refusal number, place and table are set, the four
+ * counts are 0, and no element of any column is changed. */
 vumbarete_loaded vumbarete_load(const uint8_t *edg, size_t edg_length, const uint8_t *edx, size_t edx_length, const uint8_t *fac,
                                 size_t fac_length, const uint8_t *fax, size_t fax_length, const uint8_t *rng, size_t rng_length,
                                 const uint8_t *rnx, size_t rnx_length, const uint8_t *cnd, size_t cnd_length, const uint8_t *cnx,

@@ -1,5 +1,8 @@
 """Writes the cases of program vector_cases and what it must print for them: the tile directories of tests/vectors with the output that
-stands in each, and what the vectors leave out of document 01's "Larger is 15": each file too large, each table with too many rows."""
+stands in each, and what the vectors leave out of document 01's "Larger is 15": each file too large, each table with too many rows.
+
+A case has two bytes for a file's length, so no case lends more than 65,535 bytes of a file. Files of 65,536 bytes and more, lent whole, are run
+by tests/program_cases.py."""
 import pathlib
 import struct
 
@@ -54,6 +57,16 @@ assert with_index, "a vector whose cnd has K"
 add("cnx too large, K in cnd", read(with_index[0]), "REFUSE cnx 15 0\n", cnx=MOST_BYTES + 1)
 add("cnx of 65,536 bytes", read(with_index[0]), (VECTORS / with_index[0] / "expected").read_text(), cnx=MOST_BYTES)
 add("cnx too large, cnd refused", read("refuse-cnd-3"), (VECTORS / "refuse-cnd-3" / "expected").read_text(), cnx=MOST_BYTES + 1)
+
+# --- a file has never less than what is lent of it: a smaller size that is said has no effect ---
+
+for vector, fewer in [("mj21", FILES[:5]), (with_index[0], ["cnx"]), ("refuse-rng-30", [])]:
+    tile, says = read(vector), (VECTORS / vector / "expected").read_text()
+    for f in fewer:
+        add(f"{vector}, {f} said to be empty", tile, says, **{f: 0})
+        add(f"{vector}, {f} said to have a byte less", tile, says, **{f: len(tile[f]) - 1})
+    add(f"{vector}, all said to be empty", tile, says, **{f: 0 for f in FILES})
+add("all said to be empty but rng, too large", read("mj21"), "REFUSE rng 15 0\n", **({f: 0 for f in FILES} | {"rng": MOST_BYTES + 1}))
 
 # --- then rows, as each table opens ---
 

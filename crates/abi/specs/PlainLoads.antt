@@ -1,4 +1,4 @@
--- A tile loaded, as plain numbers.
+-- A tile loaded, as plain numbers. On a refusal the counts are 0; number, place and the table that it speaks of are not.
 use Prim.Native.Nat.{ℕ}
 use Rattle.load.specs.declared.TableName.{TableName}
 use Rattle.load.specs.declared.TableName.the-variants.{Edg, Fac, Rng, Cnd}

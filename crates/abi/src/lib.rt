@@ -1,5 +1,6 @@
-// The operations for callers that are not Rattle: slices and numbers in, answers as plain numbers. In every answer number 0 says that
-// nothing is refused; else number and place are document 01's, and all other numbers of the answer are 0.
+// The operations for callers that are not Rattle: slices and numbers in, answers as plain numbers. In every answer but that of
+// `vumbarete_find_column`, a column's number alone, number 0 says that nothing is refused; else number and place are document 01's, and all
+// other numbers of the answer are 0, save the table that a load's refusal speaks of.
 mod loads;
 mod tables;
 
@@ -330,8 +331,14 @@ pub extern "C" fn vumbarete_check(
     first_edge: &[u32],
     marks: &mut [u32],
 ) -> PlainVerdict
-    ensures { λ r. ⌜ r ≡ plainVerdict (verdictOf (tile (edges (now («start_node» .entry)) (now («end_node» .entry)) (now («right_face» .entry)) (now («left_face» .entry)) (now («right_edge» .entry)) (now («left_edge» .entry))) (now («ring_ptr» .entry)) (now («fac_id» .entry)) (now («start_edge» .entry)) (now («first_edge» .entry))) (length (now (marks .entry)))) ⌝ }
-    ensures { λ _. ⌜ now (marks .exit) ≡ marksAfter (tile (edges (now («start_node» .entry)) (now («end_node» .entry)) (now («right_face» .entry)) (now («left_face» .entry)) (now («right_edge» .entry)) (now («left_edge» .entry))) (now («ring_ptr» .entry)) (now («fac_id» .entry)) (now («start_edge» .entry)) (now («first_edge» .entry))) (now (marks .entry)) ⌝ }
+    ensures { λ r. ⌜ r ≡ plainVerdict (verdictOf (tile (edges (now («start_node» .entry)) (now («end_node» .entry))
+        (now («right_face» .entry)) (now («left_face» .entry)) (now («right_edge» .entry)) (now («left_edge» .entry)))
+        (now («ring_ptr» .entry)) (now («fac_id» .entry)) (now («start_edge» .entry)) (now («first_edge» .entry)))
+        (length (now (marks .entry)))) ⌝ }
+    ensures { λ _. ⌜ now (marks .exit) ≡ marksAfter (tile (edges (now («start_node» .entry)) (now («end_node» .entry))
+        (now («right_face» .entry)) (now («left_face» .entry)) (now («right_edge» .entry)) (now («left_edge» .entry)))
+        (now («ring_ptr» .entry)) (now («fac_id» .entry)) (now («start_edge» .entry)) (now («first_edge» .entry)))
+        (now (marks .entry)) ⌝ }
 {
     plain_verdict(tile::check(
         start_node,
@@ -364,8 +371,17 @@ pub extern "C" fn vumbarete_walk(
     row: usize,
     out: &mut [u32],
 ) -> PlainSteps
-    ensures { λ r. ⌜ r ≡ plainSteps (walkOf (tile (edges (now («start_node» .entry)) (now («end_node» .entry)) (now («right_face» .entry)) (now («left_face» .entry)) (now («right_edge» .entry)) (now («left_edge» .entry))) (now («ring_ptr» .entry)) (now («fac_id» .entry)) (now («start_edge» .entry)) (now («first_edge» .entry))) row (length (now (out .entry)))) ⌝ }
-    ensures { λ _. ⌜ now (out .exit) ≡ sidesWritten (tile (edges (now («start_node» .entry)) (now («end_node» .entry)) (now («right_face» .entry)) (now («left_face» .entry)) (now («right_edge» .entry)) (now («left_edge» .entry))) (now («ring_ptr» .entry)) (now («fac_id» .entry)) (now («start_edge» .entry)) (now («first_edge» .entry))) row (walkOf (tile (edges (now («start_node» .entry)) (now («end_node» .entry)) (now («right_face» .entry)) (now («left_face» .entry)) (now («right_edge» .entry)) (now («left_edge» .entry))) (now («ring_ptr» .entry)) (now («fac_id» .entry)) (now («start_edge» .entry)) (now («first_edge» .entry))) row (length (now (out .entry)))) (now (out .entry)) ⌝ }
+    ensures { λ r. ⌜ r ≡ plainSteps (walkOf (tile (edges (now («start_node» .entry)) (now («end_node» .entry))
+        (now («right_face» .entry)) (now («left_face» .entry)) (now («right_edge» .entry)) (now («left_edge» .entry)))
+        (now («ring_ptr» .entry)) (now («fac_id» .entry)) (now («start_edge» .entry)) (now («first_edge» .entry))) row
+        (length (now (out .entry)))) ⌝ }
+    ensures { λ _. ⌜ now (out .exit) ≡ sidesWritten (tile (edges (now («start_node» .entry)) (now («end_node» .entry))
+        (now («right_face» .entry)) (now («left_face» .entry)) (now («right_edge» .entry)) (now («left_edge» .entry)))
+        (now («ring_ptr» .entry)) (now («fac_id» .entry)) (now («start_edge» .entry)) (now («first_edge» .entry))) row
+        (walkOf (tile (edges (now («start_node» .entry)) (now («end_node» .entry)) (now («right_face» .entry))
+        (now («left_face» .entry)) (now («right_edge» .entry)) (now («left_edge» .entry))) (now («ring_ptr» .entry))
+        (now («fac_id» .entry)) (now («start_edge» .entry)) (now («first_edge» .entry))) row
+        (length (now (out .entry)))) (now (out .entry)) ⌝ }
 {
     plain_steps(tile::walk(
         start_node,

@@ -9,11 +9,11 @@ use bounds::Rectangle64;
 use header::Answer;
 use header::Header;
 use number::Order;
+use opening::Opened;
+use opening::Table;
 use rectangle::Found;
 use refusal::Refusal;
-use opening::Opened;
 use table::Row;
-use opening::Table;
 use table::Value;
 ghost use mathlib.Core.Path.{_≡_};
 ghost use Rattle.bounds.specs.Bounds.{rectangle32, rectangle64};
@@ -22,7 +22,8 @@ ghost use Rattle.header.specs.Layouts.{headerOf};
 ghost use Rattle.header.specs.Steps.{columnOf};
 ghost use Rattle.opening.specs.Opening.{mostRows, openedOf, noTable};
 ghost use Rattle.rectangle.specs.Rectangles.{answer};
-ghost use Rattle.abi.specs.PlainTables.{letterOf, plainHeader, opened, plainTable, rowsJudged, plainRow, rowIn, pattern, partOf, plainValue, valueIn, nowhere, plainBounds, plainRectangle, rectangleIn};
+ghost use Rattle.abi.specs.PlainTables.{letterOf, plainHeader, opened, plainTable, rowsJudged, plainRow, rowIn, pattern};
+ghost use Rattle.abi.specs.PlainTables.{partOf, plainValue, valueIn, nowhere, plainBounds, plainRectangle, rectangleIn};
 
 // ---- answers as plain numbers
 

@@ -1,6 +1,7 @@
--- What a refusal leaves in the lent buffers. Assumes nothing.
-use mathlib.Core.Path.{_≡_, refl, ap, _∙_}
-use mathlib.Core.Bool.{Bool, false}
+-- What a refusal leaves in the lent buffers; and, from what is checked then, the numbers of a directory judged whole.
+use mathlib.Core.Path.{_≡_, refl, sym, ap, _∙_}
+use mathlib.Core.Logic.{_⊎_, inl, inr, ⊎-elim}
+use mathlib.Core.Bool.{false}
 use mathlib.Core.List.{List}
 use Prim.Native.Nat.{ℕ, _≤_, _<_}
 use native.Mathlib.Omega.{arith}
@@ -11,6 +12,7 @@ use Rattle.laws.specs.Buffer.{front}
 use Rattle.laws.specs.Marks.{zeros}
 use Rattle.laws.proofs.TestLaws.{clash}
 use Rattle.refusal.specs.declared.Refusal.{Refusal}
+use Rattle.refusal.specs.Order.{refusal}
 use Rattle.number.specs.declared.Order.{Order}
 use Rattle.triplet.specs.declared.Ids.{Ids}
 use Rattle.triplet.specs.declared.Written.{Written}
@@ -33,13 +35,20 @@ use Rattle.tile.specs.Check as check
 use Rattle.tile.specs.Walk.{walkOf, sidesWritten}
 use Rattle.tile.specs.Facts as facts
 use Rattle.tile.proofs.RefusedExactly as tile
+use Rattle.report.specs.declared.AtFault.{AtFault}
+use Rattle.report.specs.declared.AtFault.the-variants.{Is, Nothing}
+use Rattle.report.specs.declared.FileName.{FileName}
 use Rattle.report.specs.declared.Sizes.{Sizes}
 use Rattle.report.specs.Files.{fileOfVerdict}
 use Rattle.directory.specs.declared.Named.{Named}
 use Rattle.directory.specs.declared.Outcome.{Outcome}
 use Rattle.directory.specs.declared.Outcome.the-variants as outcome
-use Rattle.directory.specs.Outcome.{named, loadedOf, columnAfter, checkedFrom, checkedAs}
-use Rattle.demands.proofs.NumbersNamed.{check-numbers, among-some}
+use Rattle.directory.specs.Columns.{Columns, held, shortOf}
+use Rattle.directory.specs.Files.{Directory, filesRead}
+use Rattle.directory.specs.Outcome.{named, unlessAtFault, tileSaid, loadedOf, columnsAfter, checkedFrom, checkedAs, checkedOf, marksChecked, thenChecked, outcomeOf}
+use Rattle.demands.specs.Numbers.{Among, ofLoad, ofCheck, ofDirectory}
+use Rattle.demands.proofs.NumberLists.{one-of, also}
+use Rattle.demands.proofs.NumbersNamed.{check-numbers, among-some, directory-load-numbers}
 
 -- ---- triplets written, tiles loaded, rings walked: nothing
 
@@ -95,15 +104,54 @@ module _ (t : Tile) (marks : List ℕ) (q : Refusal) (e : verdictOf t (length ma
 
 -- ---- a directory loaded, and its tile checked
 
-pub directory-load-unchanged : (z : Sizes) (cnxRead : Bool) (f : Files) (lengths : List ℕ) (w : Named) → loadedOf z cnxRead f lengths ≡ outcome.Refused w
-    → (n : TableName) (k : ℕ) (d : List ℕ) → columnAfter (loadedOf z cnxRead f lengths) f n k d ≡ d
-directory-load-unchanged z cnxRead f lengths w e n k d = ap (λ (o : Outcome). columnAfter o f n k d) e
+pub directory-load-unchanged : (z : Sizes) (d : Directory) (lengths : List ℕ) (w : Named) → loadedOf z d lengths ≡ outcome.Refused w
+    → (l : Columns) → columnsAfter (loadedOf z d lengths) (filesRead d) l ≡ l
+directory-load-unchanged z d lengths w e l = ap (λ (o : Outcome). columnsAfter o (filesRead d) l) e
 
+-- a check that is refused: counts that the columns cannot have, or the check's own refusal
 refused-from : (c : Counts) (t : Tile) (w : Named) (v : Verdict) → checkedFrom c t v ≡ outcome.Refused w → v ≡ verdict.Refused (w .refusal)
 refused-from c t w verdict.Accepted e = clash (cc)
 refused-from c t w (verdict.Refused q) e = let h : named (fileOfVerdict (t .facId) (F t) q) q ≡ w = cc in ap (λ (x : Named). verdict.Refused (x .refusal)) h
 
-pub directory-check-refused : (c : Counts) (t : Tile) (space : ℕ) (w : Named) → checkedAs c t space ≡ outcome.Refused w
-    → verdictOf t space ≡ verdict.Refused (w .refusal)
+check-refused : (c : Counts) (t : Tile) (space : ℕ) (w : Named) → checkedAs c t space ≡ outcome.Refused w → verdictOf t space ≡ verdict.Refused (w .refusal)
 unfolding checkedAs
-directory-check-refused c t space w e = refused-from c t w (verdictOf t space) e
+check-refused c t space w e = refused-from c t w (verdictOf t space) e
+
+module _ (c : Counts) (l : Columns) (space : ℕ) (w : Named) where
+  refused-by : (x : AtFault) → shortOf c l ≡ x → unlessAtFault x (checkedAs c (held c l) space) ≡ outcome.Refused w
+      → ((n : FileName) × (shortOf c l ≡ Is n) × (w .refusal .number ≡ 15)) ⊎ ((shortOf c l ≡ Nothing) × (verdictOf (held c l) space ≡ verdict.Refused (w .refusal)))
+  refused-by (Is n) s e = let h : named n (refusal 15 0) ≡ w = cc in inl (n, s, sym (ap (λ (x : Named). x .refusal .number) h))
+  refused-by Nothing s e = inr (s, check-refused c (held c l) space w e)
+
+  stages : checkedOf c l space ≡ outcome.Refused w
+      → ((n : FileName) × (shortOf c l ≡ Is n) × (w .refusal .number ≡ 15)) ⊎ ((shortOf c l ≡ Nothing) × (verdictOf (held c l) space ≡ verdict.Refused (w .refusal)))
+  unfolding checkedOf
+  stages e = refused-by (shortOf c l) refl e
+
+  pub directory-check-numbers : checkedOf c l space ≡ outcome.Refused w → Among ofCheck (w .refusal .number)
+  directory-check-numbers e =
+      ⊎-elim (λ x. one-of ofCheck (w .refusal .number) 15 (x .2) refl) (λ x. check-numbers (held c l) space (w .refusal) (x .1)) (stages e)
+
+module _ (c : Counts) (l : Columns) (marks : List ℕ) (w : Named) (e : checkedOf c l (length marks) ≡ outcome.Refused w) where
+  pub directory-check-unchanged : w .refusal .number < 20 → marksChecked c l marks ≡ marks
+  unfolding marksChecked
+  directory-check-unchanged h =
+      ⊎-elim (λ x. rw (x .1) refl) (λ x. rw (x .0) (check-unchanged (held c l) marks (w .refusal) (x .1) h)) (stages c l (length marks) w e)
+
+  pub directory-check-zeroed : 20 ≤ w .refusal .number → (marksChecked c l marks ≡ front zeros (sides (held c l)) marks) × (sides (held c l) ≤ length marks)
+  unfolding marksChecked
+  directory-check-zeroed h =
+      ⊎-elim (λ x. absurd (omega (arith, x .2))) (λ x. rw (x .0) (check-zeroed (held c l) marks (w .refusal) (x .1) h)) (stages c l (length marks) w e)
+
+-- ---- a directory judged whole
+
+then-named : (t : Tile) (space : ℕ) (w : Named) (o : Outcome) → ((v : Named) → o ≡ outcome.Refused v → Among ofLoad (v .refusal .number))
+    → thenChecked o t space ≡ outcome.Refused w → Among ofDirectory (w .refusal .number)
+then-named t space w (outcome.Accepted c) h e =
+    also ofCheck ofDirectory (w .refusal .number) refl (check-numbers t space (w .refusal) (check-refused c t space w e))
+then-named t space w (outcome.Refused v) h e = also ofLoad ofDirectory (w .refusal .number) refl (h w e)
+
+pub directory-numbers : (z : Sizes) (d : Directory) (lengths : List ℕ) (space : ℕ) (w : Named) → outcomeOf z d lengths space ≡ outcome.Refused w
+    → Among ofDirectory (w .refusal .number)
+unfolding outcomeOf
+directory-numbers z d lengths space w e = then-named (tileSaid (filesRead d)) space w (loadedOf z d lengths) (directory-load-numbers z d lengths) e

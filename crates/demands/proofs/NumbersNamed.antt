@@ -1,18 +1,18 @@
 -- Every operation refuses with a number that document 01's table names for it. Assumes nothing.
 use mathlib.Core.Path.{_≡_, refl, sym, ap, subst, _∙_}
-use mathlib.Core.Logic.{_⊎_, inl, inr, ⊎-elim}
-use mathlib.Core.Bool.{Bool, true, false, cond, not, true≢false}
+use mathlib.Core.Logic.{inl, inr, ⊎-elim}
+use mathlib.Core.Bool.{Bool, true, false, cond, not}
 use mathlib.Core.List.{List, [], _∷_}
-use Prim.Native.Nat.{ℕ, zero, suc, pred, _+_, _-_}
-use borrow.Author.Tests.{eqb-true, eqb-false, eq-eqb}
+use Prim.Native.Nat.{ℕ, zero, suc, pred, _-_}
+use borrow.Author.Tests.{eqb-false}
 use lib.Dec.{eqb, ltb}
+use denote.Ref.{now}
 use lib.ListN.{take, drop}
 use Rattle.laws.specs.Lowest.{lowest}
 use Rattle.laws.proofs.LowestLaws.{bool-cases}
 use Rattle.laws.proofs.TestLaws.{clash}
 use Rattle.refusal.specs.declared.Refusal.{Refusal}
-use Rattle.refusal.specs.Order.{refusal, fine, refusedIf, located, first, firstOf}
-use Rattle.refusal.proofs.OrderLaws.{first-is}
+use Rattle.refusal.specs.Order.{refusal, fine, refusedIf, first, refuses, atRow, lowestOf}
 use Rattle.number.specs.declared.Order.{Order}
 use Rattle.number.specs.Bytes.{number}
 use Rattle.wave.specs.declared.Height.the-variants as height
@@ -25,9 +25,10 @@ use Rattle.triplet.specs.declared.Ids.{Ids}
 use Rattle.triplet.specs.declared.Triplet as read
 use Rattle.triplet.specs.declared.Written.the-variants as written
 use Rattle.triplet.specs.Triplet.{tripletOf}
-use Rattle.triplet.specs.Written.{sizeOf, partTooLarge, refusals, writtenOf}
+use Rattle.triplet.specs.Written.{writtenOf}
+use Rattle.triplet.specs.Words.{NotWritten, part-too-large, place-beyond, no-room}
 use Rattle.triplet.proofs.ReadExactly as triplet
-use Rattle.triplet.proofs.WrittenExactly.{refused-in-order}
+use Rattle.triplet.proofs.WrittenExactly.{not-written-exactly}
 use Rattle.field.specs.declared.FieldType.{FieldType}
 use Rattle.field.specs.declared.FieldType.the-variants as type
 use Rattle.field.specs.Nulls.{shortHalf, integerHalf, signed, shortIsNull, integerIsNull, floatIsNull, doubleIsNull}
@@ -49,7 +50,8 @@ use Rattle.table.specs.declared.Row.the-variants as row
 use Rattle.table.specs.declared.Value.{Value}
 use Rattle.table.specs.declared.Value.the-variants as value
 use Rattle.opening.specs.Opening.{needsIndex, openedOf}
-use Rattle.table.specs.Rows.{columnAt, columnsOf, noSuchRow, noSuchColumn, outside, boundOf, reach, idAt, idRefusal, usedUp, columnPlace, fieldsRefusal, placeRefusal, rowRefusal, rowOf}
+use Rattle.table.specs.Rows.{columnAt, columnsOf, noSuchRow, noSuchColumn, outside, boundOf, reach, idAt, idRefusal, usedUp}
+use Rattle.table.specs.Rows.{columnPlace, fieldsRefusal, placeRefusal, rowRefusal, rowJudged, rowsOf, rowsRefusal, rowOf}
 use Rattle.table.specs.Values.{tripletOfRead, byType, shown, inRow, valueOf}
 use Rattle.opening.specs.Words as opening-words
 use Rattle.table.specs.Words as table
@@ -83,41 +85,22 @@ use Rattle.load.specs.Load.{loadOf}
 use Rattle.load.specs.Words as load
 use Rattle.load.proofs.LoadedExactly as load-proofs
 use Rattle.report.specs.declared.Sizes.{Sizes}
-use Rattle.report.specs.declared.TooLarge.{TooLarge}
-use Rattle.report.specs.declared.TooLarge.the-variants.{Is, Nothing}
+use Rattle.report.specs.declared.AtFault.{AtFault}
+use Rattle.report.specs.declared.AtFault.the-variants.{Is, Nothing}
 use Rattle.report.specs.Files.{mostRows, tooLarge, fileOfFinding}
 use Rattle.directory.specs.declared.Named.{Named}
 use Rattle.directory.specs.declared.Outcome.the-variants as outcome
-use Rattle.directory.specs.Outcome.{named, loadedAs, sizedAs, loadedOf}
-use Rattle.demands.specs.Demands.{Among, ofHeader, ofOpening, ofRow, ofLoad, ofCheck, ofWalk}
-
--- ---- one of a list, by a computed test
-
-abbrev has : List ℕ → ℕ → Bool
-has [] a = false
-has (b ∷ l) a = cond (eqb a b) true (has l a)
-
-one-of : (l : List ℕ) (n a : ℕ) → n ≡ a → has l a ≡ true → Among l n
-one-of [] n a e t = absurd (true≢false (sym t))
-one-of (b ∷ l) n a e t = bool-cases (eqb a b) (λ c. inl (e ∙ eqb-true a b c)) (λ c. inr (one-of l n a e (rw c at t)))
-
-abbrev hasAll : List ℕ → List ℕ → Bool
-hasAll m [] = true
-hasAll m (a ∷ l) = cond (has m a) (hasAll m l) false
-
-also : (l m : List ℕ) (n : ℕ) → hasAll m l ≡ true → Among l n → Among m n
-also (a ∷ l) m n t (inl e) = bool-cases (has m a) (λ c. one-of m n a e c) (λ c. let w = rw c at t in absurd (true≢false (sym w)))
-also (a ∷ l) m n t (inr h) = bool-cases (has m a) (λ c. also l m n (rw c at t) h) (λ c. let w = rw c at t in absurd (true≢false (sym w)))
-
--- 0 is in no list of refusals
-none-zero : (l : List ℕ) → has l 0 ≡ false → (n : ℕ) → n ≡ 0 → Among l n → ⊥
-none-zero (a ∷ l) t n z (inl e) = let w = rw (eq-eqb 0 a (sym z ∙ e)) at t in true≢false w
-none-zero (a ∷ l) t n z (inr h) =
-    bool-cases (eqb 0 a) (λ c. let w = rw c at t in absurd (true≢false w)) (λ c. none-zero l (rw c at t) n z h)
+use Rattle.directory.specs.Files.{Directory, cnxRead, filesRead, sizesTaken}
+use Rattle.directory.specs.Outcome.{named, loadedAs, unlessAtFault, loadedOf}
+use Rattle.reader.specs.declared.Reader.{Reader}
+use Rattle.reader.specs.Moves.{gives}
+use Rattle.demands.specs.Numbers.{Among, NoneOrAmong, ofWave, ofTriplet, ofWriting, ofHeader, ofStep, ofOpening, ofRow}
+use Rattle.demands.specs.Numbers.{ofValue, ofBounds, ofRectangle, ofLoad, ofSuccessor, ofCheck, ofWalk}
+use Rattle.demands.proofs.NumberLists.{has, one-of, hasAll, also, none-zero}
 
 -- a refusal that is none, or has one of these numbers
 abbrev Listed : List ℕ → Refusal → Type 0
-Listed l q = (q .number ≡ 0) ⊎ Among l (q .number)
+Listed l q = NoneOrAmong l (q .number)
 
 module _ (l : List ℕ) where
   either : (b : Bool) (q r : Refusal) → Listed l q → Listed l r → Listed l (cond b q r)
@@ -127,38 +110,29 @@ module _ (l : List ℕ) where
   if-refused : (b : Bool) (n p : ℕ) → has l n ≡ true → Listed l (refusedIf b n p)
   if-refused b n p t = either b (refusal n p) fine (inr (one-of l n n refl t)) (inl refl)
 
-  if-located : (n p : ℕ) → has l n ≡ true → Listed l (located n p)
-  unfolding located
-  if-located n p t = either (eqb p 0) fine (refusal n p) (inl refl) (inr (one-of l n n refl t))
-
   either-first : (a b : Refusal) → Listed l a → Listed l b → Listed l (first a b)
   unfolding first
   either-first a b u v = either (eqb (a .number) 0) b a v u
 
 -- ---- wave heights, triplets
 
-pub wave-numbers : (text : List ℕ) (q : Refusal) → heightOf text ≡ height.Refused q → Among (16 ∷ []) (q .number)
+pub wave-numbers : (text : List ℕ) (q : Refusal) → heightOf text ≡ height.Refused q → Among ofWave (q .number)
 wave-numbers text q e = inl (wave.refused-exactly text q .0 e .0)
 
-pub judgement-numbers : (measured limit : List ℕ) (q : Refusal) → judgementOf measured limit ≡ judgement.Refused q → Among (16 ∷ []) (q .number)
+pub judgement-numbers : (measured limit : List ℕ) (q : Refusal) → judgementOf measured limit ≡ judgement.Refused q → Among ofWave (q .number)
 judgement-numbers measured limit q e =
     ⊎-elim (wave-numbers limit q) (λ w. wave-numbers measured q (w .2)) (judged.refused-exactly measured limit q .0 e)
 
-pub triplet-numbers : (o : Order) (s : List ℕ) (q : Refusal) → tripletOf o s ≡ read.the-variants.Refused q → Among (11 ∷ []) (q .number)
+pub triplet-numbers : (o : Order) (s : List ℕ) (q : Refusal) → tripletOf o s ≡ read.the-variants.Refused q → Among ofTriplet (q .number)
 triplet-numbers o s q e = inl (ap (λ (r : Refusal). r .number) (triplet.refused-exactly o s q .0 e .0))
 
-abbrev ofWrite : List ℕ
-ofWrite = 11 ∷ 13 ∷ 14 ∷ []
+written-named : (len at : ℕ) (t : Ids) (n p : ℕ) → NotWritten len at t n p → Among ofWriting n
+written-named len at t n p (part-too-large w) = one-of ofWriting 11 11 refl refl
+written-named len at t n p (place-beyond s h) = one-of ofWriting 13 13 refl refl
+written-named len at t n p (no-room s a h) = one-of ofWriting 14 14 refl refl
 
-pub write-numbers : (len at : ℕ) (t : Ids) (q : Refusal) → writtenOf len at t ≡ written.Refused q → Among ofWrite (q .number)
-write-numbers len at t q e =
-    let w = refused-in-order len at t q .0 e in
-    let said : firstOf (refusals len at t) ≡ q = ap firstOf (w .stands) ∙ first-is (w .earlier) (w .later) q (w .passed) (w .refused) in
-    let all : Listed ofWrite (firstOf (refusals len at t)) =
-    either-first ofWrite _ _ (if-located ofWrite 11 (lowest (partTooLarge t) 3) refl)
-    (either-first ofWrite _ _ (if-refused ofWrite (ltb len at) 13 at refl)
-    (either-first ofWrite _ _ (if-refused ofWrite (ltb len (at + sizeOf t)) 14 (at + sizeOf t) refl) (inl refl))) in
-    ⊎-elim (λ z. absurd (w .refused z)) (λ h. h) (subst (Listed ofWrite) said all)
+pub write-numbers : (len at : ℕ) (t : Ids) (q : Refusal) → writtenOf len at t ≡ written.Refused q → Among ofWriting (q .number)
+write-numbers len at t q e = written-named len at t (q .number) (q .place) (not-written-exactly len at t (q .number) (q .place) .0 e)
 
 -- ---- headers, tables
 
@@ -179,7 +153,7 @@ header-numbers file q e =
     header-named file (w .test) (q .number) (q .place) (w .fails)
 
 -- a step: the header's own, or 13 at a place where no definition starts
-from-named : (s : List ℕ) (n place k : ℕ) (q : Refusal) → stepFrom s n place k ≡ step.Refused q → Among (13 ∷ ofHeader) (q .number)
+from-named : (s : List ℕ) (n place k : ℕ) (q : Refusal) → stepFrom s n place k ≡ step.Refused q → Among ofStep (q .number)
 from-named s n place zero q e =
     bool-cases (eqb place (placeAfter s n)) (λ c. let w = rw c at e in clash (cc))
     (λ c.
@@ -188,7 +162,7 @@ from-named s n place zero q e =
     inl (sym (ap (λ (r : Refusal). r .number) v)))
 from-named s n place (suc k) q e = clash (cc)
 
-pub step-numbers : (file : List ℕ) (place : ℕ) (q : Refusal) → stepOf file place ≡ step.Refused q → Among (13 ∷ ofHeader) (q .number)
+pub step-numbers : (file : List ℕ) (place : ℕ) (q : Refusal) → stepOf file place ≡ step.Refused q → Among ofStep (q .number)
 unfolding stepOf
 step-numbers file place q e =
     let r = headerRefusal file in
@@ -199,6 +173,9 @@ step-numbers file place q e =
     let v : r ≡ q = cc in
     let w = header-proofs.refused-exactly file (q .number) (q .place) .0 (v, λ z. eqb-false (r .number) 0 c (ap (λ (x : Refusal). x .number) v ∙ z)) in
     inr (header-named file (w .test) (q .number) (q .place) (w .fails)))
+
+pub reader-numbers : (r : Reader) (q : Refusal) → gives r ≡ step.Refused q → Among ofStep (q .number)
+reader-numbers r q e = step-numbers (now (r .file)) (r .at) q e
 
 opening-named : (file index : List ℕ) (most : ℕ) (x : opening-words.Test) (n p : ℕ) → opening-words.FailsAt file index most x n p → Among ofOpening n
 opening-named file index most opening-words.header-accepted n p w = also ofHeader ofOpening n refl (header-named file (w .test) n p (w .fails))
@@ -240,8 +217,20 @@ module _ (s : List ℕ) (l : Layout) (start end i : ℕ) where
   unfolding rowRefusal
   row-listed = either-first ofRow (placeRefusal s l start end i) (fieldsRefusal s l start end i) place-listed fields-listed
 
-abbrev ofValue : List ℕ
-ofValue = 13 ∷ ofRow
+pub judge-row-numbers : (file : List ℕ) (l : Layout) (start end i : ℕ) → NoneOrAmong ofRow (rowRefusal file l start end i .number)
+judge-row-numbers file l start end i = row-listed file l start end i
+
+-- the lowest row that is refused, or none
+at-row-listed : (l : List ℕ) (f : ℕ → Refusal) → ((i : ℕ) → Listed l (f i)) → (k : ℕ) → Listed l (atRow f k)
+at-row-listed l f h zero = inl refl
+at-row-listed l f h (suc k) = h (suc k)
+
+pub judge-rows-numbers : (file index : List ℕ) (t : Table) → NoneOrAmong ofRow (rowsRefusal file index t .number)
+unfolding rowsRefusal lowestOf
+judge-rows-numbers file index t =
+    let l = t .layout in
+    at-row-listed ofRow (rowJudged file index l) (λ i. row-listed file l (boundOf l index (pred i)) (boundOf l index i) i)
+    (lowest (refuses (rowJudged file index l)) (rowsOf t))
 
 pub row-numbers : (file index : List ℕ) (t : Table) (i : ℕ) (q : Refusal) → rowOf file index t i ≡ row.Refused q → Among ofValue (q .number)
 unfolding rowOf
@@ -270,7 +259,7 @@ either-value false x y u v = v
 triplet-value : (o : Order) (b : List ℕ) (x : read.Triplet) → tripletOf o b ≡ x → ValueListed (tripletOfRead x)
 triplet-value o b (read.the-variants.Is ids n) e q u = clash (cc)
 triplet-value o b (read.the-variants.Refused r) e q u =
-    let v : r ≡ q = cc in also (11 ∷ []) ofValue (q .number) refl (subst (λ (r : Refusal). Among (11 ∷ []) (r .number)) v (triplet-numbers o b r e))
+    let v : r ≡ q = cc in also ofTriplet ofValue (q .number) refl (subst (λ (r : Refusal). Among ofTriplet (r .number)) v (triplet-numbers o b r e))
 
 module _ (o : Order) (s : List ℕ) (c : ColumnLayout) (p end : ℕ) where
   type-value : (x : FieldType) → ValueListed (byType x o s c p end)
@@ -308,13 +297,13 @@ value-numbers file index t i k =
     (either-value (noSuchColumn l k) _ _ (no-such-value k)
     (in-row-value (rowOf file index t i) f (row-numbers file index t i) (λ a b. shown-value (l .order) file (columnAt l k) (columnPlace file l a b k) b)))
 
-pub bounds-numbers : (c : Coordinates) (q : Refusal) → boundsOf c ≡ refused q → Among (12 ∷ []) (q .number)
+pub bounds-numbers : (c : Coordinates) (q : Refusal) → boundsOf c ≡ refused q → Among ofBounds (q .number)
 bounds-numbers c q e = inl (bounds.refused-number c q e)
 
-pub rectangle-numbers : (file index : List ℕ) (t : Table) (i k : ℕ) (q : Refusal) → rectangleOf file index t i k ≡ refusedWith q → Among (12 ∷ ofValue) (q .number)
+pub rectangle-numbers : (file index : List ℕ) (t : Table) (i k : ℕ) (q : Refusal) → rectangleOf file index t i k ≡ refusedWith q → Among ofRectangle (q .number)
 rectangle-numbers file index t i k q e =
-    ⊎-elim (λ w. one-of (12 ∷ ofValue) (q .number) 13 (w .1) refl)
-    (⊎-elim (λ w. one-of (12 ∷ ofValue) (q .number) 13 (w .2) refl)
+    ⊎-elim (λ w. one-of ofRectangle (q .number) 13 (w .1) refl)
+    (⊎-elim (λ w. one-of ofRectangle (q .number) 13 (w .2) refl)
     (⊎-elim (λ w. inr (row-numbers file index t i q (w .refused))) (λ w. inl (w .number-12))))
     (rectangle.refused-exactly file index t i k (q .number) (q .place) .0 e)
 
@@ -374,15 +363,20 @@ check-numbers t space q e =
     let w = check.refused t space (q .number) (q .place) e in
     check-named t space (w .test) (q .number) (q .place) (w .fails)
 
+-- what is wrong at a side
+side-named : (l : List ℕ) → hasAll l ofSuccessor ≡ true → (t : Edges) (s n : ℕ) → Says t s (Wrong n) → Among l n
+side-named l h t s n =
+    ⊎-elim (λ w. also ofSuccessor l n h (one-of ofSuccessor n 22 (w .0) refl)) (λ w. also ofSuccessor l n h (fault-named ofSuccessor refl t s n (w .1)))
+
+pub successor-numbers : (t : Edges) (s n : ℕ) → successor t s ≡ Wrong n → Among ofSuccessor n
+successor-numbers t s n e = side-named ofSuccessor refl t s n (subst (Says t s) e (says t s))
+
 -- a move that cannot be made
 module _ (t : Edges) (a : ℕ) where
-  wrong-named : (s n : ℕ) → Says t s (Wrong n) → Among ofWalk n
-  wrong-named s n = ⊎-elim (λ w. one-of ofWalk n 22 (w .0) refl) (λ w. fault-named ofWalk refl t s n (w .1))
-
   on-move-named : (s : ℕ) (g : ℕ → Moves) → ((u : ℕ) (q : Refusal) → g u ≡ Stuck q → Among ofWalk (q .number))
       → (x : Successor) → Says t s x → (q : Refusal) → onMove s x g ≡ Stuck q → Among ofWalk (q .number)
   on-move-named s g rest (Side u) h q e = rest u q e
-  on-move-named s g rest (Wrong n) h q e = let v : stuckAt n s ≡ q = cc in subst (λ (r : Refusal). Among ofWalk (r .number)) v (wrong-named s n h)
+  on-move-named s g rest (Wrong n) h q e = let v : stuckAt n s ≡ q = cc in subst (λ (r : Refusal). Among ofWalk (r .number)) v (side-named ofWalk refl t s n h)
 
   stuck-named : (fuel s k : ℕ) (q : Refusal) → movesFrom t a fuel s k ≡ Stuck q → Among ofWalk (q .number)
   stuck-named zero s k q e = clash (cc)
@@ -421,8 +415,8 @@ walk-numbers t r space =
 
 -- ---- a directory loaded
 
-load-named-by : (f : Files) (lengths : List ℕ) (cnxRead : Bool) (w : Named) (x : TooLarge) (l : Loaded) → loadOf f mostRows lengths ≡ l
-    → sizedAs x (loadedAs cnxRead l) ≡ outcome.Refused w → Among ofLoad (w .refusal .number)
+load-named-by : (f : Files) (lengths : List ℕ) (cnxRead : Bool) (w : Named) (x : AtFault) (l : Loaded) → loadOf f mostRows lengths ≡ l
+    → unlessAtFault x (loadedAs cnxRead l) ≡ outcome.Refused w → Among ofLoad (w .refusal .number)
 load-named-by f lengths cnxRead w (Is n) l g e =
     let h : named n (refusal 15 0) ≡ w = cc in one-of ofLoad (w .refusal .number) 15 (sym (ap (λ (x : Named). x .refusal .number) h)) refl
 load-named-by f lengths cnxRead w Nothing (loaded.Tile c) g e = clash (cc)
@@ -430,7 +424,8 @@ load-named-by f lengths cnxRead w Nothing (loaded.Refused q) g e =
     let h : named (fileOfFinding cnxRead q) (q .refusal) ≡ w = cc in
     subst (λ (x : Named). Among ofLoad (x .refusal .number)) h (load-numbers f mostRows lengths q g)
 
-pub directory-load-numbers : (z : Sizes) (cnxRead : Bool) (f : Files) (lengths : List ℕ) (w : Named) → loadedOf z cnxRead f lengths ≡ outcome.Refused w
+pub directory-load-numbers : (z : Sizes) (d : Directory) (lengths : List ℕ) (w : Named) → loadedOf z d lengths ≡ outcome.Refused w
     → Among ofLoad (w .refusal .number)
 unfolding loadedOf
-directory-load-numbers z cnxRead f lengths w e = load-named-by f lengths cnxRead w (tooLarge z cnxRead) (loadOf f mostRows lengths) refl e
+directory-load-numbers z d lengths w e =
+    load-named-by (filesRead d) lengths (cnxRead d) w (tooLarge (sizesTaken z d) (cnxRead d)) (loadOf (filesRead d) mostRows lengths) refl e

@@ -1,3 +1,5 @@
+pub mod SizesInWords
+pub mod FilesInWords
 pub mod OutcomeLaws
 pub mod VerdictOfTile
 pub mod StepLaws

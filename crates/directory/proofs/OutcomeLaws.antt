@@ -1,10 +1,12 @@
--- A directory's outcome, stage by stage. Assumes nothing.
+-- A directory's outcome, stage by stage: sizes, load, and the tile that a load leaves at the front of the ten columns.
 use mathlib.Core.Path.{_≡_, refl, sym, ap, _∙_}
 use mathlib.Core.Bool.{Bool, true, false, cond, true≢false}
 use mathlib.Core.List.{List, []}
 use Prim.Native.Nat.{ℕ}
 use lib.Dec.{eqb}
-use lib.ListN.{take, drop}
+use native.Mathlib.Omega.{arith}
+use borrow.Author.Tests.{le-ltb}
+use lib.ListN.{length, take, drop, length-append}
 use lib.Seq.{take-at}
 use Rattle.laws.specs.Buffer.{listed}
 use Rattle.laws.proofs.LowestLaws.{bool-cases}
@@ -14,6 +16,7 @@ use Rattle.refusal.specs.declared.Refusal.{Refusal}
 use Rattle.refusal.specs.Order.{refusal}
 use Rattle.side.specs.Edges.{edges}
 use Rattle.tile.specs.Columns.{Tile, tile}
+use Rattle.tile.specs.Check.{marksAfter}
 use Rattle.load.specs.declared.TableName.{TableName}
 use Rattle.load.specs.declared.TableName.the-variants.{Edg, Fac, Rng, Cnd}
 use Rattle.load.specs.declared.Counts.{Counts}
@@ -23,59 +26,78 @@ use Rattle.load.specs.declared.Loaded.the-variants as loaded
 use Rattle.load.specs.Sources.{Files, files, tableIn, tablesOf}
 use Rattle.load.specs.Load.{cellsOf, counts, loadFinding, loadOf, columnLeft}
 use Rattle.load.specs.Words.{countOf}
+use Rattle.report.specs.declared.AtFault.{AtFault}
+use Rattle.report.specs.declared.AtFault.the-variants.{Is, Nothing}
 use Rattle.report.specs.declared.FileName.{FileName}
 use Rattle.report.specs.declared.Sizes.{Sizes}
-use Rattle.report.specs.declared.TooLarge.{TooLarge}
-use Rattle.report.specs.declared.TooLarge.the-variants.{Is, Nothing}
-use Rattle.report.specs.Files.{mostRows, tooLarge, showsTriplet, fileOfFinding}
+use Rattle.report.specs.Files.{mostRows, tooLarge, fileOfFinding}
 use Rattle.directory.specs.declared.Named.{Named}
 use Rattle.directory.specs.declared.Outcome.{Outcome}
 use Rattle.directory.specs.declared.Outcome.the-variants.{Accepted, Refused}
-use Rattle.directory.specs.Outcome.{filesRead, named, column, tileSaid, held, loadedAs, sizedAs, loadedOf, columnAfter, checkedAs, outcomeOf}
+use Rattle.directory.specs.Columns.{Columns, columns, held, short, shortOf}
+use Rattle.directory.specs.Files.{Directory, cnxRead, filesRead, sizesTaken}
+use Rattle.directory.specs.Outcome.{named, column, tileSaid, loadedAs, unlessAtFault, loadedOf, columnAfter, columnsAfter, checkedAs, checkedOf, marksChecked, outcomeOf}
 
 -- the index of cnd as it is lent
-pub files-read : (edg edx fac rng cnd cnx x : List ℕ) (k : Bool) → k ≡ showsTriplet cnd → x ≡ cond k cnx [] → files edg edx fac [] rng [] cnd x ≡ filesRead edg edx fac rng cnd cnx
+pub files-read : (d : Directory) (x : List ℕ) (k : Bool) → k ≡ cnxRead d → x ≡ cond k (d .cnx) [] → files (d .edg) (d .edx) (d .fac) [] (d .rng) [] (d .cnd) x ≡ filesRead d
 unfolding filesRead
-files-read edg edx fac rng cnd cnx x k p q = ap (λ (i : List ℕ). files edg edx fac [] rng [] cnd i) (q ∙ ap (λ (b : Bool). cond b cnx []) p)
+files-read d x k p q = ap (λ (i : List ℕ). files (d .edg) (d .edx) (d .fac) [] (d .rng) [] (d .cnd) i) (q ∙ ap (λ (b : Bool). cond b (d .cnx) []) p)
 
 -- ---- loaded
 
-module _ (z : Sizes) (k k′ : Bool) (pk : k ≡ k′) (t : TooLarge) (pt : t ≡ tooLarge z k) where
-  sized : tooLarge z k′ ≡ t
-  sized = ap (tooLarge z) (sym pk) ∙ sym pt
+module _ (z : Sizes) (d : Directory) (y : Sizes) (py : y ≡ sizesTaken z d) (k : Bool) (pk : k ≡ cnxRead d) (t : AtFault) (pt : t ≡ tooLarge y k) where
+  sized : tooLarge (sizesTaken z d) (cnxRead d) ≡ t
+  sized = sym (pt ∙ ap (λ (x : Sizes). tooLarge x k) py ∙ ap (tooLarge (sizesTaken z d)) pk)
 
   -- a file too large
-  pub size-refused : (n : FileName) → t ≡ Is n → (f : Files) (lengths : List ℕ) (q : Named) (x : Refusal) → q ≡ named n x → x ≡ refusal 15 0
-      → Refused q ≡ loadedOf z k′ f lengths
+  pub size-refused : (n : FileName) → t ≡ Is n → (lengths : List ℕ) (q : Named) (x : Refusal) → q ≡ named n x → x ≡ refusal 15 0 → Refused q ≡ loadedOf z d lengths
   unfolding loadedOf
-  size-refused n e f lengths q x a b = rw (sized ∙ e) (ap Refused (a ∙ ap (named n) b))
+  size-refused n e lengths q x a b = rw (sized ∙ e) (ap Refused (a ∙ ap (named n) b))
 
   -- no file too large: what loading says
-  module _ (e : t ≡ Nothing) (f′ f : Files) (pf : f′ ≡ f) (lengths : List ℕ) (r : Loaded) (pr : r ≡ loadOf f′ mostRows lengths) where
-    said : loadOf f mostRows lengths ≡ r
+  module _ (e : t ≡ Nothing) (f : Files) (pf : f ≡ filesRead d) (lengths : List ℕ) (r : Loaded) (pr : r ≡ loadOf f mostRows lengths) where
+    said : loadOf (filesRead d) mostRows lengths ≡ r
     said = ap (λ (x : Files). loadOf x mostRows lengths) (sym pf) ∙ sym pr
 
-    pub load-accepted : (c : Counts) → r ≡ loaded.Tile c → Accepted c ≡ loadedOf z k′ f lengths
+    pub load-accepted : (c : Counts) → r ≡ loaded.Tile c → Accepted c ≡ loadedOf z d lengths
     unfolding loadedOf
     load-accepted c g = rw (sized ∙ e, said ∙ g) refl
 
     pub load-refused : (q : Finding) → r ≡ loaded.Refused q → (n : FileName) (w : Named) → n ≡ fileOfFinding k q → w ≡ named n (q .refusal)
-        → Refused w ≡ loadedOf z k′ f lengths
+        → Refused w ≡ loadedOf z d lengths
     unfolding loadedOf
     load-refused q g n w a b =
         rw (sized ∙ e, said ∙ g) (ap Refused (b ∙ ap (λ (x : FileName). named x (q .refusal)) (a ∙ ap (λ (x : Bool). fileOfFinding x q) pk)))
 
--- what the load leaves in a column: the column that the files say, or what was there
-module _ (f′ f : Files) (pf : f′ ≡ f) (r : Loaded) where
-  left-by : (l : Loaded) → r ≡ l → (m : TableName) (i : ℕ) (d d′ : List ℕ) → d′ ≡ columnLeft r f′ mostRows m i d → d′ ≡ columnLeft l f mostRows m i d
-  left-by l g m i d d′ h = h ∙ ap (λ (x : Files). columnLeft r x mostRows m i d) pf ∙ ap (λ (x : Loaded). columnLeft x f mostRows m i d) g
+-- what the load leaves in the ten columns
+ten : (a b c d e f g h i j a′ b′ c′ d′ e′ f′ g′ h′ i′ j′ : List ℕ) → a ≡ a′ → b ≡ b′ → c ≡ c′ → d ≡ d′ → e ≡ e′ → f ≡ f′ → g ≡ g′ → h ≡ h′ → i ≡ i′ → j ≡ j′
+    → columns a b c d e f g h i j ≡ columns a′ b′ c′ d′ e′ f′ g′ h′ i′ j′
+ten a b c d e f g h i j a′ b′ c′ d′ e′ f′ g′ h′ i′ j′ pa pb pc pd pe pf pg ph pi pj = rw (pa, pb, pc, pd, pe, pf, pg, ph, pi, pj) refl
 
-  pub column-loaded : (c : Counts) → r ≡ loaded.Tile c → (m : TableName) (i : ℕ) (d d′ : List ℕ) → d′ ≡ columnLeft r f′ mostRows m i d
-      → d′ ≡ columnAfter (Accepted c) f m i d
-  column-loaded c g = left-by (loaded.Tile c) g
+abbrev answeredAs : Loaded → Named → Outcome
+answeredAs (loaded.Tile c) w = Accepted c
+answeredAs (loaded.Refused q) w = Refused w
 
-  pub column-kept : (q : Finding) → r ≡ loaded.Refused q → (m : TableName) (i : ℕ) (d d′ : List ℕ) → d′ ≡ columnLeft r f′ mostRows m i d → d′ ≡ d
-  column-kept q g = left-by (loaded.Refused q) g
+module _ (f′ f : Files) (pf : f′ ≡ f) (r : Loaded) (w : Named) where
+  left-alike : (r : Loaded) (m : TableName) (i : ℕ) (d : List ℕ) → columnLeft r f mostRows m i d ≡ columnAfter (answeredAs r w) f m i d
+  left-alike (loaded.Tile c) m i d = refl
+  left-alike (loaded.Refused q) m i d = refl
+
+  left-by : (m : TableName) (i : ℕ) (d d′ : List ℕ) → d′ ≡ columnLeft r f′ mostRows m i d → d′ ≡ columnAfter (answeredAs r w) f m i d
+  left-by m i d d′ h = h ∙ ap (λ (x : Files). columnLeft r x mostRows m i d) pf ∙ left-alike r m i d
+
+  -- the load's answer is `g`, and the directory's with it
+  pub ten-left : (g : Loaded) → r ≡ g → (l : Columns) (sn en rf lf re le rp fi se fe : List ℕ)
+      → sn ≡ columnLeft r f′ mostRows Edg 1 (l .startNode) → en ≡ columnLeft r f′ mostRows Edg 2 (l .endNode)
+      → rf ≡ columnLeft r f′ mostRows Edg 3 (l .rightFace) → lf ≡ columnLeft r f′ mostRows Edg 4 (l .leftFace)
+      → re ≡ columnLeft r f′ mostRows Edg 5 (l .rightEdge) → le ≡ columnLeft r f′ mostRows Edg 6 (l .leftEdge)
+      → rp ≡ columnLeft r f′ mostRows Fac 7 (l .ringPtr) → fi ≡ columnLeft r f′ mostRows Rng 8 (l .facId)
+      → se ≡ columnLeft r f′ mostRows Rng 9 (l .startEdge) → fe ≡ columnLeft r f′ mostRows Cnd 10 (l .firstEdge)
+      → columns sn en rf lf re le rp fi se fe ≡ columnsAfter (answeredAs g w) f l
+  ten-left g e l sn en rf lf re le rp fi se fe a b c d h i j k m n =
+      ten _ _ _ _ _ _ _ _ _ _ _ _ _ _ _ _ _ _ _ _ (left-by Edg 1 _ sn a) (left-by Edg 2 _ en b) (left-by Edg 3 _ rf c) (left-by Edg 4 _ lf d)
+      (left-by Edg 5 _ re h) (left-by Edg 6 _ le i) (left-by Fac 7 _ rp j) (left-by Rng 8 _ fi k) (left-by Rng 9 _ se m) (left-by Cnd 10 _ fe n)
+      ∙ ap (λ (x : Loaded). columnsAfter (answeredAs x w) f l) e
 
 -- ---- the columns of a loaded directory hold the tile that its files say
 
@@ -86,18 +108,21 @@ tile-is : (f : Files) (a b c d e g h i j k : List ℕ) → a ≡ column f Edg 1 
 unfolding tileSaid
 tile-is f a b c d e g h i j k pa pb pc pd pe pg ph pi pj pk = rw (pa, pb, pc, pd, pe, pg, ph, pi, pj, pk) refl
 
-module _ (z : Sizes) (k : Bool) (f : Files) (lengths : List ℕ) (c : Counts) where
+module _ (z : Sizes) (d : Directory) (lengths : List ℕ) (c : Counts) where
+  abbrev f : Files
+  f = filesRead d
+
   -- what a load that is accepted says of its stages
-  accepted-by : (x : TooLarge) → tooLarge z k ≡ x → (l : Loaded) → loadOf f mostRows lengths ≡ l → sizedAs x (loadedAs k l) ≡ Accepted c
-      → (tooLarge z k ≡ Nothing) × (loadOf f mostRows lengths ≡ loaded.Tile c)
+  accepted-by : (x : AtFault) → tooLarge (sizesTaken z d) (cnxRead d) ≡ x → (l : Loaded) → loadOf f mostRows lengths ≡ l
+      → unlessAtFault x (loadedAs (cnxRead d) l) ≡ Accepted c → (tooLarge (sizesTaken z d) (cnxRead d) ≡ Nothing) × (loadOf f mostRows lengths ≡ loaded.Tile c)
   accepted-by (Is n) s l g e = clash (cc)
-  accepted-by Nothing s (loaded.Tile d) g e = let q : d ≡ c = cc in (s, g ∙ ap loaded.Tile q)
+  accepted-by Nothing s (loaded.Tile k) g e = let q : k ≡ c = cc in (s, g ∙ ap loaded.Tile q)
   accepted-by Nothing s (loaded.Refused q) g e = clash (cc)
 
-  module _ (accepted : loadedOf z k f lengths ≡ Accepted c) where
-    pub stages : (tooLarge z k ≡ Nothing) × (loadOf f mostRows lengths ≡ loaded.Tile c)
+  module _ (accepted : loadedOf z d lengths ≡ Accepted c) where
+    pub stages : (tooLarge (sizesTaken z d) (cnxRead d) ≡ Nothing) × (loadOf f mostRows lengths ≡ loaded.Tile c)
     unfolding loadedOf
-    stages = accepted-by (tooLarge z k) refl (loadOf f mostRows lengths) refl accepted
+    stages = accepted-by (tooLarge (sizesTaken z d) (cnxRead d)) refl (loadOf f mostRows lengths) refl accepted
 
     abbrev is-tile : Loaded → Bool
     is-tile (loaded.Tile d) = true
@@ -125,28 +150,56 @@ module _ (z : Sizes) (k : Bool) (f : Files) (lengths : List ℕ) (c : Counts) wh
     count-rows Cnd = ap (λ (x : Counts). x .nodes) counted
 
     -- the front of a column as the load leaves it
-    front-said : (r : Outcome) → r ≡ Accepted c → (n : TableName) (i : ℕ) (d d′ : List ℕ) → d′ ≡ columnAfter r f n i d → take (countOf c n) d′ ≡ column f n i
-    front-said r e n i d d′ h =
+    front-said : (n : TableName) (i : ℕ) (l : List ℕ) → take (countOf c n) (columnAfter (Accepted c) f n i l) ≡ column f n i
+    front-said n i l =
         let rows = tableIn (tablesOf f mostRows) n .rows in
-        ap (take (countOf c n)) (h ∙ ap (λ (o : Outcome). columnAfter o f n i d) e)
-        ∙ take-at (listed (cellsOf f mostRows n i) rows) (drop rows d) (countOf c n) (length-listed (cellsOf f mostRows n i) rows ∙ sym (count-rows n))
+        take-at (listed (cellsOf f mostRows n i) rows) (drop rows l) (countOf c n) (length-listed (cellsOf f mostRows n i) rows ∙ sym (count-rows n))
 
     -- THE TILE AT THE FRONT of the ten columns is the one that the files say
-    pub held-said : (r : Outcome) → r ≡ Accepted c → (sn en rf lf re le rp fi se fe sn′ en′ rf′ lf′ re′ le′ rp′ fi′ se′ fe′ : List ℕ) → sn′ ≡ columnAfter r f Edg 1 sn → en′ ≡ columnAfter r f Edg 2 en
-        → rf′ ≡ columnAfter r f Edg 3 rf → lf′ ≡ columnAfter r f Edg 4 lf → re′ ≡ columnAfter r f Edg 5 re → le′ ≡ columnAfter r f Edg 6 le
-        → rp′ ≡ columnAfter r f Fac 7 rp → fi′ ≡ columnAfter r f Rng 8 fi → se′ ≡ columnAfter r f Rng 9 se → fe′ ≡ columnAfter r f Cnd 10 fe
-        → held c sn′ en′ rf′ lf′ re′ le′ rp′ fi′ se′ fe′ ≡ tileSaid f
-    held-said r e sn en rf lf re le rp fi se fe sn′ en′ rf′ lf′ re′ le′ rp′ fi′ se′ fe′ a b d g h i j k l m =
-        tile-is f _ _ _ _ _ _ _ _ _ _ (front-said r e Edg 1 sn sn′ a) (front-said r e Edg 2 en en′ b) (front-said r e Edg 3 rf rf′ d) (front-said r e Edg 4 lf lf′ g)
-        (front-said r e Edg 5 re re′ h) (front-said r e Edg 6 le le′ i) (front-said r e Fac 7 rp rp′ j) (front-said r e Rng 8 fi fi′ k)
-        (front-said r e Rng 9 se se′ l) (front-said r e Cnd 10 fe fe′ m)
+    pub held-said : (l : Columns) → held c (columnsAfter (Accepted c) f l) ≡ tileSaid f
+    held-said l =
+        tile-is f _ _ _ _ _ _ _ _ _ _ (front-said Edg 1 _) (front-said Edg 2 _) (front-said Edg 3 _) (front-said Edg 4 _) (front-said Edg 5 _) (front-said Edg 6 _)
+        (front-said Fac 7 _) (front-said Rng 8 _) (front-said Rng 9 _) (front-said Cnd 10 _)
 
-    -- the check's answer on that tile is the directory's
-    pub outcome-checked : (space : ℕ) (t : Tile) (o : Outcome) → t ≡ tileSaid f → o ≡ checkedAs c t space → o ≡ outcomeOf z k f lengths space
-    unfolding outcomeOf
-    outcome-checked space t o a b = rw accepted (b ∙ ap (λ (x : Tile). checkedAs c x space) a)
+    -- no column is shorter than the counts say
+    long-enough : (n : TableName) (i : ℕ) (l : List ℕ) → short (countOf c n) (columnAfter (Accepted c) f n i l) ≡ false
+    long-enough n i l =
+        let rows = tableIn (tablesOf f mostRows) n .rows in
+        let g = cellsOf f mostRows n i in
+        le-ltb _ (countOf c n) (simp (length-append, length-listed g rows) (omega (arith, count-rows n)))
 
--- and a load that is refused is the directory's answer
-pub outcome-refused : (z : Sizes) (k : Bool) (f : Files) (lengths : List ℕ) (space : ℕ) (w : Named) → loadedOf z k f lengths ≡ Refused w → Refused w ≡ outcomeOf z k f lengths space
-unfolding outcomeOf
-outcome-refused z k f lengths space w e = rw e refl
+    pub counts-held : (l : Columns) → shortOf c (columnsAfter (Accepted c) f l) ≡ Nothing
+    unfolding shortOf
+    counts-held l =
+        rw (
+          long-enough Edg 1 (l .startNode),
+          long-enough Edg 2 (l .endNode),
+          long-enough Edg 3 (l .rightFace),
+          long-enough Edg 4 (l .leftFace),
+          long-enough Edg 5 (l .rightEdge),
+          long-enough Edg 6 (l .leftEdge),
+          long-enough Fac 7 (l .ringPtr),
+          long-enough Rng 8 (l .facId),
+          long-enough Rng 9 (l .startEdge),
+          long-enough Cnd 10 (l .firstEdge),
+        ) refl
+
+    -- THE ONE CALL AFTER THE OTHER gives the directory's outcome
+    pub loaded-checked : (l : Columns) (space : ℕ) → checkedOf c (columnsAfter (Accepted c) f l) space ≡ outcomeOf z d lengths space
+    unfolding checkedOf outcomeOf
+    loaded-checked l space = rw (counts-held l, accepted) (ap (λ (t : Tile). checkedAs c t space) (held-said l))
+
+-- ---- checked
+
+module _ (c : Counts) (l : Columns) (x : AtFault) (px : x ≡ shortOf c l) where
+  -- counts that the columns cannot have
+  pub counts-refused : (n : FileName) → x ≡ Is n → (q : Named) (r : Refusal) → q ≡ named n r → r ≡ refusal 15 0 → (d : List ℕ)
+      → (Refused q ≡ checkedOf c l (length d)) × (d ≡ marksChecked c l d)
+  unfolding checkedOf marksChecked
+  counts-refused n e q r a b d = (rw (sym px ∙ e) (ap Refused (a ∙ ap (named n) b)), rw (sym px ∙ e) refl)
+
+  -- counts that they can have: the check's own answer
+  pub counts-fit : x ≡ Nothing → (d d′ : List ℕ) (o : Outcome) → o ≡ checkedAs c (held c l) (length d) → d′ ≡ marksAfter (held c l) d
+      → (o ≡ checkedOf c l (length d)) × (d′ ≡ marksChecked c l d)
+  unfolding checkedOf marksChecked
+  counts-fit e d d′ o a b = (rw (sym px ∙ e) a, rw (sym px ∙ e) b)

@@ -1,2 +1,4 @@
+pub mod Files
+pub mod Columns
 pub mod Outcome
 pub mod Words

@@ -2,24 +2,24 @@
 use load::Counts;
 use load::Loaded;
 use refusal::Refusal;
+use report::AtFault;
 use report::FileName;
-use report::Sizes;
-use report::TooLarge;
 use report::MOST_ROWS;
+use report::Sizes;
 use tile::Verdict;
 use tile::Walked;
 ghost use mathlib.Core.Path.{_≡_};
-ghost use mathlib.Core.Bool.{cond};
+ghost use mathlib.Core.Bool.{cond, _||_};
 ghost use mathlib.Core.List.{[]};
+ghost use Prim.Native.Nat.{max};
 ghost use lib.ListN.{length, take};
 ghost use Rattle.side.specs.Edges.{edges};
 ghost use Rattle.tile.specs.Columns.{tile};
 ghost use Rattle.tile.specs.Check.{marksAfter};
 ghost use Rattle.tile.specs.Walk.{walkOf, sidesWritten};
-ghost use Rattle.load.specs.declared.TableName.the-variants.{Edg, Fac, Rng, Cnd};
-ghost use Rattle.load.specs.Load.{lengthsOf};
-ghost use Rattle.report.specs.Files.{showsTriplet};
-ghost use Rattle.directory.specs.Outcome.{filesRead, held, named, loadedOf, columnAfter, checkedAs};
+ghost use Rattle.directory.specs.Columns.{columns, lengths, held, short, shortOf};
+ghost use Rattle.directory.specs.Files.{directory, filesRead, sizesTaken};
+ghost use Rattle.directory.specs.Outcome.{named, loadedOf, columnsAfter, checkedAs, checkedOf, marksChecked};
 
 // A refusal, and the file that it speaks of.
 pub struct Named {
@@ -32,12 +32,16 @@ pub enum Outcome {
     Refused(Named),
 }
 
+// Refusal 15: a file, or a table's count, is larger than it may be.
 const TOO_LARGE: u32 = 15;
 
 fn name(file: FileName, refused: Refusal) -> Named
     ensures { λ r. ⌜ r ≡ named file refused ⌝ }
 {
-    Named { file: file, refusal: refused }
+    Named {
+        file: file,
+        refusal: refused,
+    }
 }
 
 // ---- loaded
@@ -52,8 +56,42 @@ fn lent_index<'a>(cnx: &'a [u8], cnx_read: bool) -> &'a [u8]
     &cnx[0..0]
 }
 
-// The files of a directory, each with its size, loaded to the front of ten columns; a file too large may be lent in part. cnx counts only
-// where cnd shows K. A refusal changes nothing.
+// The greater of two.
+fn larger(a: usize, b: usize) -> usize
+    ensures { λ r. ⌜ r ≡ max a b ⌝ }
+{
+    if a < b {
+        return b;
+    }
+    a
+}
+
+// The size of each file: what it is said to have, and never less than what is lent of it.
+fn take_sizes(
+    sizes: Sizes,
+    edg: &[u8],
+    edx: &[u8],
+    fac: &[u8],
+    rng: &[u8],
+    cnd: &[u8],
+    cnx: &[u8],
+) -> Sizes
+    ensures { λ r. ⌜ r ≡ sizesTaken sizes
+        (directory (now (edg .entry)) (now (edx .entry)) (now (fac .entry)) (now (rng .entry))
+        (now (cnd .entry)) (now (cnx .entry))) ⌝ }
+{
+    Sizes {
+        edg: larger(sizes.edg, edg.len()),
+        edx: larger(sizes.edx, edx.len()),
+        fac: larger(sizes.fac, fac.len()),
+        rng: larger(sizes.rng, rng.len()),
+        cnd: larger(sizes.cnd, cnd.len()),
+        cnx: larger(sizes.cnx, cnx.len()),
+    }
+}
+
+// The files of a directory, each with the size that it is said to have, loaded to the front of ten columns; a file too large may be lent in
+// part. cnx counts only where cnd shows K. A refusal changes nothing.
 pub fn load_files(
     sizes: Sizes,
     edg: &[u8],
@@ -73,29 +111,59 @@ pub fn load_files(
     start_edge: &mut [u32],
     first_edge: &mut [u32],
 ) -> Outcome
-    ensures { λ r. ⌜ r ≡ loadedOf sizes (showsTriplet (now (cnd .entry))) (filesRead (now (edg .entry)) (now (edx .entry)) (now (fac .entry)) (now (rng .entry)) (now (cnd .entry)) (now (cnx .entry))) (lengthsOf (now («start_node» .entry)) (now («end_node» .entry)) (now («right_face» .entry)) (now («left_face» .entry)) (now («right_edge» .entry)) (now («left_edge» .entry)) (now («ring_ptr» .entry)) (now («fac_id» .entry)) (now («start_edge» .entry)) (now («first_edge» .entry))) ⌝ }
-    ensures { λ r. ⌜ now («start_node» .exit) ≡ columnAfter r (filesRead (now (edg .entry)) (now (edx .entry)) (now (fac .entry)) (now (rng .entry)) (now (cnd .entry)) (now (cnx .entry))) Edg 1 (now («start_node» .entry)) ⌝ }
-    ensures { λ r. ⌜ now («end_node» .exit) ≡ columnAfter r (filesRead (now (edg .entry)) (now (edx .entry)) (now (fac .entry)) (now (rng .entry)) (now (cnd .entry)) (now (cnx .entry))) Edg 2 (now («end_node» .entry)) ⌝ }
-    ensures { λ r. ⌜ now («right_face» .exit) ≡ columnAfter r (filesRead (now (edg .entry)) (now (edx .entry)) (now (fac .entry)) (now (rng .entry)) (now (cnd .entry)) (now (cnx .entry))) Edg 3 (now («right_face» .entry)) ⌝ }
-    ensures { λ r. ⌜ now («left_face» .exit) ≡ columnAfter r (filesRead (now (edg .entry)) (now (edx .entry)) (now (fac .entry)) (now (rng .entry)) (now (cnd .entry)) (now (cnx .entry))) Edg 4 (now («left_face» .entry)) ⌝ }
-    ensures { λ r. ⌜ now («right_edge» .exit) ≡ columnAfter r (filesRead (now (edg .entry)) (now (edx .entry)) (now (fac .entry)) (now (rng .entry)) (now (cnd .entry)) (now (cnx .entry))) Edg 5 (now («right_edge» .entry)) ⌝ }
-    ensures { λ r. ⌜ now («left_edge» .exit) ≡ columnAfter r (filesRead (now (edg .entry)) (now (edx .entry)) (now (fac .entry)) (now (rng .entry)) (now (cnd .entry)) (now (cnx .entry))) Edg 6 (now («left_edge» .entry)) ⌝ }
-    ensures { λ r. ⌜ now («ring_ptr» .exit) ≡ columnAfter r (filesRead (now (edg .entry)) (now (edx .entry)) (now (fac .entry)) (now (rng .entry)) (now (cnd .entry)) (now (cnx .entry))) Fac 7 (now («ring_ptr» .entry)) ⌝ }
-    ensures { λ r. ⌜ now («fac_id» .exit) ≡ columnAfter r (filesRead (now (edg .entry)) (now (edx .entry)) (now (fac .entry)) (now (rng .entry)) (now (cnd .entry)) (now (cnx .entry))) Rng 8 (now («fac_id» .entry)) ⌝ }
-    ensures { λ r. ⌜ now («start_edge» .exit) ≡ columnAfter r (filesRead (now (edg .entry)) (now (edx .entry)) (now (fac .entry)) (now (rng .entry)) (now (cnd .entry)) (now (cnx .entry))) Rng 9 (now («start_edge» .entry)) ⌝ }
-    ensures { λ r. ⌜ now («first_edge» .exit) ≡ columnAfter r (filesRead (now (edg .entry)) (now (edx .entry)) (now (fac .entry)) (now (rng .entry)) (now (cnd .entry)) (now (cnx .entry))) Cnd 10 (now («first_edge» .entry)) ⌝ }
+    ensures { λ r. ⌜ r ≡ loadedOf sizes
+        (directory (now (edg .entry)) (now (edx .entry)) (now (fac .entry)) (now (rng .entry))
+        (now (cnd .entry)) (now (cnx .entry)))
+        (lengths (columns (now («start_node» .entry)) (now («end_node» .entry)) (now («right_face» .entry))
+        (now («left_face» .entry)) (now («right_edge» .entry)) (now («left_edge» .entry))
+        (now («ring_ptr» .entry)) (now («fac_id» .entry))
+        (now («start_edge» .entry)) (now («first_edge» .entry)))) ⌝ }
+    ensures { λ r. ⌜ columns (now («start_node» .exit)) (now («end_node» .exit)) (now («right_face» .exit))
+        (now («left_face» .exit)) (now («right_edge» .exit)) (now («left_edge» .exit))
+        (now («ring_ptr» .exit)) (now («fac_id» .exit))
+        (now («start_edge» .exit)) (now («first_edge» .exit))
+        ≡ columnsAfter r
+        (filesRead (directory (now (edg .entry)) (now (edx .entry)) (now (fac .entry)) (now (rng .entry))
+        (now (cnd .entry)) (now (cnx .entry))))
+        (columns (now («start_node» .entry)) (now («end_node» .entry)) (now («right_face» .entry))
+        (now («left_face» .entry)) (now («right_edge» .entry)) (now («left_edge» .entry))
+        (now («ring_ptr» .entry)) (now («fac_id» .entry))
+        (now («start_edge» .entry)) (now («first_edge» .entry))) ⌝ }
 {
     let cnx_read = report::shows_triplet(cnd);
-    match report::too_large(sizes, cnx_read) {
-        TooLarge::Is(file) => {
+    match report::too_large(take_sizes(sizes, edg, edx, fac, rng, cnd, cnx), cnx_read) {
+        AtFault::Is(file) => {
             return Outcome::Refused(name(file, refusal::refuse(TOO_LARGE, 0)));
         }
-        TooLarge::Nothing => {}
+        AtFault::Nothing => {}
     }
     let none = &cnd[0..0];
-    match load::load(edg, edx, fac, none, rng, none, cnd, lent_index(cnx, cnx_read), MOST_ROWS, start_node, end_node, right_face, left_face, right_edge, left_edge, ring_ptr, fac_id, start_edge, first_edge) {
+    match load::load(
+        edg,
+        edx,
+        fac,
+        none,
+        rng,
+        none,
+        cnd,
+        lent_index(cnx, cnx_read),
+        MOST_ROWS,
+        start_node,
+        end_node,
+        right_face,
+        left_face,
+        right_edge,
+        left_edge,
+        ring_ptr,
+        fac_id,
+        start_edge,
+        first_edge,
+    ) {
         Loaded::Tile(c) => Outcome::Accepted(c),
-        Loaded::Refused(found) => Outcome::Refused(name(report::file_of_finding(cnx_read, found), found.refusal)),
+        Loaded::Refused(found) => Outcome::Refused(name(
+            report::file_of_finding(cnx_read, found),
+            found.refusal,
+        )),
     }
 }
 
@@ -126,17 +194,42 @@ fn check_tile(
     first_edge: &[u32],
     marks: &mut [u32],
 ) -> Outcome
-    ensures { λ r. ⌜ r ≡ checkedAs counts (tile (edges (now («start_node» .entry)) (now («end_node» .entry)) (now («right_face» .entry)) (now («left_face» .entry)) (now («right_edge» .entry)) (now («left_edge» .entry))) (now («ring_ptr» .entry)) (now («fac_id» .entry)) (now («start_edge» .entry)) (now («first_edge» .entry))) (length (now (marks .entry))) ⌝ }
-    ensures { λ _. ⌜ now (marks .exit) ≡ marksAfter (tile (edges (now («start_node» .entry)) (now («end_node» .entry)) (now («right_face» .entry)) (now («left_face» .entry)) (now («right_edge» .entry)) (now («left_edge» .entry))) (now («ring_ptr» .entry)) (now («fac_id» .entry)) (now («start_edge» .entry)) (now («first_edge» .entry))) (now (marks .entry)) ⌝ }
+    ensures { λ r. ⌜ r ≡ checkedAs counts
+        (tile (edges (now («start_node» .entry)) (now («end_node» .entry)) (now («right_face» .entry))
+        (now («left_face» .entry)) (now («right_edge» .entry)) (now («left_edge» .entry)))
+        (now («ring_ptr» .entry)) (now («fac_id» .entry))
+        (now («start_edge» .entry)) (now («first_edge» .entry)))
+        (length (now (marks .entry))) ⌝ }
+    ensures { λ _. ⌜ now (marks .exit) ≡ marksAfter
+        (tile (edges (now («start_node» .entry)) (now («end_node» .entry)) (now («right_face» .entry))
+        (now («left_face» .entry)) (now («right_edge» .entry)) (now («left_edge» .entry)))
+        (now («ring_ptr» .entry)) (now («fac_id» .entry))
+        (now («start_edge» .entry)) (now («first_edge» .entry)))
+        (now (marks .entry)) ⌝ }
 {
-    match tile::check(start_node, end_node, right_face, left_face, right_edge, left_edge, ring_ptr, fac_id, start_edge, first_edge, marks) {
+    match tile::check(
+        start_node,
+        end_node,
+        right_face,
+        left_face,
+        right_edge,
+        left_edge,
+        ring_ptr,
+        fac_id,
+        start_edge,
+        first_edge,
+        marks,
+    ) {
         Verdict::Accepted => Outcome::Accepted(counts),
-        Verdict::Refused(q) => Outcome::Refused(name(report::file_of_verdict(fac_id, ring_ptr.len(), q), q)),
+        Verdict::Refused(q) => Outcome::Refused(name(
+            report::file_of_verdict(fac_id, ring_ptr.len(), q),
+            q,
+        )),
     }
 }
 
 // The check of the tile that stands at the front of ten columns.
-pub fn check_loaded(
+fn check_front(
     counts: Counts,
     start_node: &[u32],
     end_node: &[u32],
@@ -150,8 +243,18 @@ pub fn check_loaded(
     first_edge: &[u32],
     marks: &mut [u32],
 ) -> Outcome
-    ensures { λ r. ⌜ r ≡ checkedAs counts (held counts (now («start_node» .entry)) (now («end_node» .entry)) (now («right_face» .entry)) (now («left_face» .entry)) (now («right_edge» .entry)) (now («left_edge» .entry)) (now («ring_ptr» .entry)) (now («fac_id» .entry)) (now («start_edge» .entry)) (now («first_edge» .entry))) (length (now (marks .entry))) ⌝ }
-    ensures { λ _. ⌜ now (marks .exit) ≡ marksAfter (held counts (now («start_node» .entry)) (now («end_node» .entry)) (now («right_face» .entry)) (now («left_face» .entry)) (now («right_edge» .entry)) (now («left_edge» .entry)) (now («ring_ptr» .entry)) (now («fac_id» .entry)) (now («start_edge» .entry)) (now («first_edge» .entry))) (now (marks .entry)) ⌝ }
+    ensures { λ r. ⌜ r ≡ checkedAs counts
+        (held counts (columns (now («start_node» .entry)) (now («end_node» .entry)) (now («right_face» .entry))
+        (now («left_face» .entry)) (now («right_edge» .entry)) (now («left_edge» .entry))
+        (now («ring_ptr» .entry)) (now («fac_id» .entry))
+        (now («start_edge» .entry)) (now («first_edge» .entry))))
+        (length (now (marks .entry))) ⌝ }
+    ensures { λ _. ⌜ now (marks .exit) ≡ marksAfter
+        (held counts (columns (now («start_node» .entry)) (now («end_node» .entry)) (now («right_face» .entry))
+        (now («left_face» .entry)) (now («right_edge» .entry)) (now («left_edge» .entry))
+        (now («ring_ptr» .entry)) (now («fac_id» .entry))
+        (now («start_edge» .entry)) (now («first_edge» .entry))))
+        (now (marks .entry)) ⌝ }
 {
     let e = counts.edges;
     let f = counts.faces;
@@ -173,6 +276,120 @@ pub fn check_loaded(
     )
 }
 
+// Whether one of two columns has not so many rows.
+fn two_short(n: usize, a: &[u32], b: &[u32]) -> bool
+    ensures { λ r. ⌜ r ≡ (short n (now (a .entry)) || short n (now (b .entry))) ⌝ }
+{
+    if a.len() < n {
+        return true;
+    }
+    b.len() < n
+}
+
+// The first table of which a column is shorter than the counts say.
+fn short_table(
+    counts: Counts,
+    start_node: &[u32],
+    end_node: &[u32],
+    right_face: &[u32],
+    left_face: &[u32],
+    right_edge: &[u32],
+    left_edge: &[u32],
+    ring_ptr: &[u32],
+    fac_id: &[u32],
+    start_edge: &[u32],
+    first_edge: &[u32],
+) -> AtFault
+    ensures { λ r. ⌜ r ≡ shortOf counts
+        (columns (now («start_node» .entry)) (now («end_node» .entry)) (now («right_face» .entry))
+        (now («left_face» .entry)) (now («right_edge» .entry)) (now («left_edge» .entry))
+        (now («ring_ptr» .entry)) (now («fac_id» .entry))
+        (now («start_edge» .entry)) (now («first_edge» .entry))) ⌝ }
+{
+    let e = counts.edges;
+    if two_short(e, start_node, end_node) {
+        return AtFault::Is(FileName::Edg);
+    }
+    if two_short(e, right_face, left_face) {
+        return AtFault::Is(FileName::Edg);
+    }
+    if two_short(e, right_edge, left_edge) {
+        return AtFault::Is(FileName::Edg);
+    }
+    if ring_ptr.len() < counts.faces {
+        return AtFault::Is(FileName::Fac);
+    }
+    if two_short(counts.rings, fac_id, start_edge) {
+        return AtFault::Is(FileName::Rng);
+    }
+    if first_edge.len() < counts.nodes {
+        return AtFault::Is(FileName::Cnd);
+    }
+    AtFault::Nothing
+}
+
+// The check of the tile that stands at the front of ten columns. Counts that the columns cannot have are refused.
+pub fn check_loaded(
+    counts: Counts,
+    start_node: &[u32],
+    end_node: &[u32],
+    right_face: &[u32],
+    left_face: &[u32],
+    right_edge: &[u32],
+    left_edge: &[u32],
+    ring_ptr: &[u32],
+    fac_id: &[u32],
+    start_edge: &[u32],
+    first_edge: &[u32],
+    marks: &mut [u32],
+) -> Outcome
+    ensures { λ r. ⌜ r ≡ checkedOf counts
+        (columns (now («start_node» .entry)) (now («end_node» .entry)) (now («right_face» .entry))
+        (now («left_face» .entry)) (now («right_edge» .entry)) (now («left_edge» .entry))
+        (now («ring_ptr» .entry)) (now («fac_id» .entry))
+        (now («start_edge» .entry)) (now («first_edge» .entry)))
+        (length (now (marks .entry))) ⌝ }
+    ensures { λ _. ⌜ now (marks .exit) ≡ marksChecked counts
+        (columns (now («start_node» .entry)) (now («end_node» .entry)) (now («right_face» .entry))
+        (now («left_face» .entry)) (now («right_edge» .entry)) (now («left_edge» .entry))
+        (now («ring_ptr» .entry)) (now («fac_id» .entry))
+        (now («start_edge» .entry)) (now («first_edge» .entry)))
+        (now (marks .entry)) ⌝ }
+{
+    match short_table(
+        counts,
+        start_node,
+        end_node,
+        right_face,
+        left_face,
+        right_edge,
+        left_edge,
+        ring_ptr,
+        fac_id,
+        start_edge,
+        first_edge,
+    ) {
+        AtFault::Is(file) => {
+            return Outcome::Refused(name(file, refusal::refuse(TOO_LARGE, 0)));
+        }
+        AtFault::Nothing => {}
+    }
+    check_front(
+        counts,
+        start_node,
+        end_node,
+        right_face,
+        left_face,
+        right_edge,
+        left_edge,
+        ring_ptr,
+        fac_id,
+        start_edge,
+        first_edge,
+        marks,
+    )
+}
+
 // The walk from a ring row of the tile that stands at the front of ten columns: its steps, and its sides.
 pub fn walk_ring(
     counts: Counts,
@@ -189,8 +406,18 @@ pub fn walk_ring(
     row: usize,
     sides: &mut [u32],
 ) -> Walked
-    ensures { λ r. ⌜ r ≡ walkOf (held counts (now («start_node» .entry)) (now («end_node» .entry)) (now («right_face» .entry)) (now («left_face» .entry)) (now («right_edge» .entry)) (now («left_edge» .entry)) (now («ring_ptr» .entry)) (now («fac_id» .entry)) (now («start_edge» .entry)) (now («first_edge» .entry))) row (length (now (sides .entry))) ⌝ }
-    ensures { λ r. ⌜ now (sides .exit) ≡ sidesWritten (held counts (now («start_node» .entry)) (now («end_node» .entry)) (now («right_face» .entry)) (now («left_face» .entry)) (now («right_edge» .entry)) (now («left_edge» .entry)) (now («ring_ptr» .entry)) (now («fac_id» .entry)) (now («start_edge» .entry)) (now («first_edge» .entry))) row r (now (sides .entry)) ⌝ }
+    ensures { λ r. ⌜ r ≡ walkOf
+        (held counts (columns (now («start_node» .entry)) (now («end_node» .entry)) (now («right_face» .entry))
+        (now («left_face» .entry)) (now («right_edge» .entry)) (now («left_edge» .entry))
+        (now («ring_ptr» .entry)) (now («fac_id» .entry))
+        (now («start_edge» .entry)) (now («first_edge» .entry))))
+        row (length (now (sides .entry))) ⌝ }
+    ensures { λ r. ⌜ now (sides .exit) ≡ sidesWritten
+        (held counts (columns (now («start_node» .entry)) (now («end_node» .entry)) (now («right_face» .entry))
+        (now («left_face» .entry)) (now («right_edge» .entry)) (now («left_edge» .entry))
+        (now («ring_ptr» .entry)) (now («fac_id» .entry))
+        (now («start_edge» .entry)) (now («first_edge» .entry))))
+        row r (now (sides .entry)) ⌝ }
 {
     let e = counts.edges;
     let f = counts.faces;

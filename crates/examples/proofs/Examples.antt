@@ -28,7 +28,12 @@ abbrev _then_ : {A B : Type 0} → A → B → A × B
 a then b = (a, b)
 
 pub all-hold : All Holds cases
-unfolding first located lowestOf orderOf value number bytesOf printable letter plain digit holds allowed takes closes ends stars move scanOf typeOf countRight seek countOf definition firstPlace placeAfter lower sameName isNamed columnNamed orderOfFile textLength headOf columnCount keyListed sound idColumn idWrong headerRefusal varies fieldSize columnLayout rowWidth layoutOf headerOf partAt partsOf tripletOf widthFor form encoded sizeOf writtenOf heightOf judgementOf leavingEdge successor startSide emptyStart slicesUnequal tooManyRows sizesWrong verdict moves walkOf
+unfolding first located lowestOf orderOf value number bytesOf
+    printable letter plain digit holds allowed takes closes ends stars move scanOf typeOf countRight
+    seek countOf definition firstPlace placeAfter lower sameName isNamed columnNamed orderOfFile textLength headOf columnCount
+    keyListed sound idColumn idWrong headerRefusal varies fieldSize columnLayout rowWidth layoutOf headerOf
+    partAt partsOf tripletOf widthFor form encoded sizeOf writtenOf heightOf judgementOf
+    leavingEdge successor startSide emptyStart slicesUnequal tooManyRows sizesWrong verdict moves walkOf
 all-hold =
     -- P1, P2
     (refl, refl, refl, refl)
@@ -46,6 +51,7 @@ all-hold =
     then (refl, refl)
     then refl
     -- P10, P11
+    then (refl, refl)
     then (refl, refl)
     then (refl, refl)
     then tt

@@ -29,7 +29,7 @@ use Rattle.tile.specs.declared.Walked.{Walked}
 use Rattle.tile.specs.declared.Walked.the-variants.{Steps}
 use Rattle.tile.specs.Columns.{Tile, R, sides}
 use Rattle.tile.specs.Check.{verdictOf}
-use Rattle.tile.specs.Walk.{walkOf}
+use Rattle.tile.specs.Walk.{walkOf, sidesWritten}
 
 -- ---- what is asked and answered
 
@@ -48,6 +48,8 @@ pub data Case : Type 0 where
   no-height : String → Refusal → Case
   -- a tile is accepted, and the walks from its ring rows have so many steps
   rings-of : Tile → List ℕ → Case
+  -- the walk from a ring row of a tile, into an output with room for just these sides, writes them
+  writes-of : Tile → ℕ → List ℕ → Case
   -- a tile is refused
   no-tile : Tile → Refusal → Case
 
@@ -83,6 +85,9 @@ Holds (against measured limit j) = judgementOf (bytes measured) (bytes limit) �
 Holds (no-height text q) =
     (heightOf (bytes text) ≡ height.Refused q) × ((measured : List ℕ) → judgementOf measured (bytes text) ≡ judgement.Refused q)
 Holds (rings-of t steps) = (verdictOf t (sides t) ≡ verdict.Accepted) × (walks t ≡ map Steps steps)
+Holds (writes-of t r sides) =
+    (walkOf t r (length sides) ≡ Steps (length sides))
+    × (sidesWritten t r (walkOf t r (length sides)) (replicate (length sides) 0) ≡ sides)
 Holds (no-tile t q) = verdictOf t (sides t) ≡ verdict.Refused q
 
 -- each case of a table is so
@@ -178,6 +183,7 @@ cases =
     ∷ no-tile (mj21 (2 ∷ 1 ∷ 2 ∷ [])) (refusal 23 2)
     -- P10: "one loop [..]: two rings of 1 step"
     ∷ rings-of loop (1 ∷ 1 ∷ [])
-    -- P11: "one dangling edge [..]: one ring of 2 steps"
+    -- P11: "one dangling edge [..]: one ring of 2 steps": its right side, 1, then its left side, 2
     ∷ rings-of dangling (2 ∷ [])
+    ∷ writes-of dangling 1 (1 ∷ 2 ∷ [])
     ∷ []

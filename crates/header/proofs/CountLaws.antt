@@ -12,7 +12,7 @@ use lib.Seq.{drop-cons, take-take, take-all, getD-take, getD-drop}
 use Rattle.number.specs.Bytes.{AreBytes}
 use Rattle.header.specs.Places.{decimal, countOf}
 use Rattle.field.specs.Fields.{widest}
-use Rattle.header.specs.Stages.{greatestCount, greatestSize}
+use Rattle.header.specs.Serving.Stages.{greatestCount, greatestSize}
 
 -- digits only make a number greater
 decimal-above : (n : ℕ) (l : List ℕ) → n ≤ decimal n l

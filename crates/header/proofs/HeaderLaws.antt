@@ -17,7 +17,7 @@ use Rattle.header.specs.Names.{columnNamed}
 use Rattle.header.specs.Judge.{headOf, headerRefusal}
 use Rattle.header.specs.Layouts.{layoutOf, blankLayout, headerOf}
 use Rattle.header.specs.Steps.{stepOf, startOf, columnOf}
-use Rattle.header.specs.Stages.{layoutFrom, stepIn}
+use Rattle.header.specs.Serving.Stages.{layoutFrom, stepIn}
 use Rattle.header.proofs.JudgeLaws.{Passed}
 
 module _ (file : List ℕ) (f : Facts) (p : Passed file f) where

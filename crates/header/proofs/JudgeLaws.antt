@@ -26,7 +26,7 @@ use Rattle.header.specs.declared.Judged.the-variants.{Sound, Refused}
 use Rattle.header.specs.Places.{definition, placeAfter, column}
 use Rattle.header.specs.Names.{namedBefore, columnNamed}
 use Rattle.header.specs.Judge.{mostText, mostColumns, orderByte, orderOfFile, textLength, headOf, textOf, columnCount, sound, columnRefusal, idName, idSound, otherKeyP, idColumn, idWrong, tests, headerRefusal}
-use Rattle.header.specs.Stages.{mostHead, nameTests, columnTests, textTests, facts, judged, judgedText, judgedFile}
+use Rattle.header.specs.Serving.Stages.{mostHead, nameTests, columnTests, textTests, facts, judged, judgedText, judgedFile}
 use Rattle.header.proofs.PlaceLaws.{is-column}
 
 -- a test that refuses is the answer, whatever follows; one that passes leaves the answer to the rest

@@ -14,7 +14,7 @@ use Rattle.header.specs.Places.{definition, placeAfter}
 use Rattle.header.specs.Names.{columnNamed}
 use Rattle.header.specs.Judge.{mostColumns, idName, idColumn}
 use Rattle.header.specs.Layouts.{varies, someVaries, bytesOfAll, columnLayout, blankColumn, laidOut, rowWidth}
-use Rattle.header.specs.Stages.{layoutAt, laidColumns, layoutFrom}
+use Rattle.header.specs.Serving.Stages.{layoutAt, laidColumns, layoutFrom}
 use Rattle.header.proofs.PlaceLaws.{is-column}
 
 -- `at` is the place after k definitions, d the definition read there, l its layout after the fixed bytes of the k columns

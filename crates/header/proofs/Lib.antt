@@ -6,6 +6,7 @@ pub mod AcceptedExactly
 pub mod RefusedExactly
 pub mod StepsInOrder
 pub mod LayoutMeans
+pub mod TripletShown
 pub mod ColumnOfName
 pub mod PlaceLaws
 pub mod CountLaws

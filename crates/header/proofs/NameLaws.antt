@@ -19,7 +19,7 @@ use Rattle.header.specs.declared.Names.{Names}
 use Rattle.header.specs.Places.{part, span, definition, placeAfter, column}
 use Rattle.header.specs.Names.{lower, sameText, sameName, namedBefore, isNamed}
 use Rattle.header.specs.Judge.{mostColumns, keyP, otherKeyP}
-use Rattle.header.specs.Stages.{namesOf}
+use Rattle.header.specs.Serving.Stages.{namesOf}
 use Rattle.header.proofs.PlaceLaws.{name-within, is-column}
 
 -- texts of two lengths differ

@@ -13,7 +13,7 @@ use Rattle.refusal.specs.Order.{refusal}
 use Rattle.header.specs.declared.Definition.{Definition}
 use Rattle.header.specs.declared.Step.the-variants.{Column, Done, Refused}
 use Rattle.header.specs.Places.{definition, placeAfter}
-use Rattle.header.specs.Stages.{stepIn}
+use Rattle.header.specs.Serving.Stages.{stepIn}
 
 -- column k starts at the place
 abbrev pub standsAt : List ℕ → ℕ → ℕ → Bool

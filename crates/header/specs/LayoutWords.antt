@@ -18,7 +18,7 @@ use Rattle.header.specs.Places.{decimal}
 use Rattle.header.specs.Names.{sameText}
 use Rattle.header.specs.Judge.{mostColumns, idName}
 use Rattle.header.specs.Layouts.{blankColumn}
-use Rattle.header.specs.Words.{columnAt, OrderIs}
+use Rattle.header.specs.Words.{columnAt, OrderIs, AcceptedHeader}
 
 -- "Without a `*` or K column all rows have one width": a field of this column has no fixed width
 abbrev pub Varies : Column → Type 0
@@ -57,3 +57,11 @@ pub record LaidOut (file : List ℕ) (h : Reading) (l : Layout) : Type 0 where
   pub width-some : Each (l .columns) (λ k. Varies (columnAt h k) → ⊥) → 4 ≤ l .width
   -- the array's other places are blank
   pub others : drop (l .columns) (l .cols) ≡ replicate (mostColumns - l .columns) blankColumn
+
+-- "if K occurs", "once cnd's header is accepted and shows K": the file's header is accepted, and a column of its reading is of type K
+pub record ShowsK (file : List ℕ) : Type 0 where
+  pub reading : Reading
+  pub accepted : AcceptedHeader file reading
+  pub column : ℕ
+  pub within : In (length (reading .columns)) column
+  pub letter : columnAt reading column .type ≡ letterK

@@ -6,4 +6,4 @@ pub mod Steps
 pub mod Words
 pub mod Refusals
 pub mod LayoutWords
-pub mod Stages
+pub mod Serving

@@ -21,7 +21,7 @@ ghost use Rattle.header.specs.Names.{lower, sameText, namedBefore, colum
 ghost use Rattle.header.specs.Judge.{mostColumns, keyP, keyListed, sound, columnRefusal, idSound, otherKeyP, idWrong};
 ghost use Rattle.header.specs.Layouts.{kindOf, varies, fieldSize, blankColumn, blankLayout, headerOf};
 ghost use Rattle.header.specs.Steps.{stepOf, startOf, columnOf};
-ghost use Rattle.header.specs.Stages.{mostHead, greatestCount, greatestSize, namesOf, nameTests, columnTests, judgedText, judgedFile, layoutAt, laidColumns, layoutFrom, stepIn};
+ghost use Rattle.header.specs.Serving.Stages.{mostHead, greatestCount, greatestSize, namesOf, nameTests, columnTests, judgedText, judgedFile, layoutAt, laidColumns, layoutFrom, stepIn};
 
 // "15: L over 32,767"
 pub const MOST_TEXT: usize = 32767;

@@ -6,7 +6,7 @@ use native.Mathlib.Numerals.{add-one}
 use native.Mathlib.Omega.{arith}
 use lib.ListN.{length, getD, take, drop, set, length-append, drop-of-length-le}
 use lib.Seq.{sets, drop-cons}
-use Rattle.laws.specs.Pieces.{Begun}
+use Rattle.laws.specs.Serving.Pieces.{Begun}
 use Rattle.laws.proofs.LentLaws.{stored-run}
 
 -- one run of stores after another

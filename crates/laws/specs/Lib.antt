@@ -7,4 +7,4 @@ pub mod Machine
 pub mod Language
 pub mod Foremost
 pub mod Partition
-pub mod Pieces
+pub mod Serving

@@ -32,7 +32,7 @@ use Rattle.cell.specs.Numbers.{numberBy}
 use Rattle.cell.proofs.LetterLaws.{number-by}
 use Rattle.load.specs.Sources.{atPlace}
 use Rattle.load.specs.Cells.{cellIn, cellOf, EdgeColumns, SixThere}
-use Rattle.load.specs.CellPlans.{ask, slotsOf, slotFor, lettersOf, offsetsOf, walkedCells, fixedCells, edgeCells, columnCell}
+use Rattle.load.specs.Serving.CellPlans.{ask, slotsOf, slotFor, lettersOf, offsetsOf, walkedCells, fixedCells, edgeCells, columnCell}
 
 -- the six are columns that a header can have
 pub six-there : (l : Layout) (columns : List ℕ) → EdgeColumns l columns → SixThere columns

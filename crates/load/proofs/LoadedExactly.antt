@@ -34,7 +34,8 @@ use Rattle.opening.specs.Words as opening
 use Rattle.table.specs.Words as table
 use Rattle.table.proofs.RowLaws.{such}
 use Rattle.opening.proofs.OpeningInOrder.{refused-exactly-when}
-use Rattle.opening.proofs.OpenedExactly.{opened-exactly, opened-table, opened-rows, in-layout}
+use Rattle.opening.proofs.RowWidth.{in-layout}
+use Rattle.opening.proofs.OpenedExactly.{opened-exactly, opened-table, opened-rows}
 use Rattle.table.proofs.RowExactly.{there, columns-all, inside-file, row-exactly}
 use Rattle.table.proofs.RowRefusedExactly.{row-refused-exactly}
 use Rattle.load.specs.declared.TableName.{TableName}

@@ -1,5 +1,5 @@
 pub mod Sources
 pub mod Cells
-pub mod CellPlans
 pub mod Load
 pub mod Words
+pub mod Serving

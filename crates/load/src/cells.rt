@@ -13,7 +13,7 @@ ghost use Rattle.opening.specs.Opening.{mostRows};
 ghost use Rattle.table.specs.Rows.{noSuchColumn, slotOf, keptFor};
 ghost use Rattle.load.specs.Sources.{atPlace};
 ghost use Rattle.load.specs.Cells.{cellOf, EdgeColumns, SixThere};
-ghost use Rattle.load.specs.CellPlans.{slotsOf, slotFor, lettersOf, offsetsOf, walkedCells, fixedCells, edgeCells, columnCell};
+ghost use Rattle.load.specs.Serving.CellPlans.{slotsOf, slotFor, lettersOf, offsetsOf, walkedCells, fixedCells, edgeCells, columnCell};
 ghost use Rattle.load.specs.Load.{RowsJudged};
 
 // An edge's row has six of the ten columns.

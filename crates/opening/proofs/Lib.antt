@@ -1,3 +1,4 @@
 pub mod OpeningLaws
+pub mod RowWidth
 pub mod OpeningInOrder
 pub mod OpenedExactly

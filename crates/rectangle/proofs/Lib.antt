@@ -1,2 +1,3 @@
+pub mod RectangleLaws
 pub mod RectangleExactly
 pub mod CoordinatesCounted

@@ -1,6 +1,6 @@
 -- The rectangle of an edge: the coordinates in column k of row i. "A column of another type than C, Z, B, Y is 13. Found for C and Z in
 -- f32, for B and Y in f64, the rectangle travels as one record of four floats."
-use mathlib.Core.Bool.{Bool, true, false, cond}
+use mathlib.Core.Bool.{Bool, true, false, cond, not}
 use mathlib.Core.List.{List}
 use Prim.Native.Nat.{ℕ}
 use lib.Dec.{eqb}
@@ -13,12 +13,13 @@ use Rattle.field.specs.declared.FieldType.the-variants as type
 use Rattle.bounds.specs.declared.Parts.the-variants.{Two, Three}
 use Rattle.bounds.specs.Bounds.{Rectangle, Bounds, within, refused, coordinates, boundsOf, rectangle32, rectangle64}
 use Rattle.header.specs.declared.Layout.{Layout}
-use Rattle.header.specs.Judge.{mostColumns}
 use Rattle.opening.specs.declared.Table.{Table}
+use Rattle.table.specs.declared.Row.{Row}
+use Rattle.table.specs.declared.Row.the-variants as row
 use Rattle.table.specs.declared.Value.{Value}
 use Rattle.table.specs.declared.Value.the-variants as value
-use Rattle.table.specs.Rows.{columnAt, noSuch}
-use Rattle.table.specs.Values.{valueOf, partOf}
+use Rattle.table.specs.Rows.{noSuchRow, noSuchColumn, columnAt, columnPlace, rowOf}
+use Rattle.table.specs.Values.{shown, partOf}
 use Rattle.rectangle.specs.declared.Found.{Found}
 use Rattle.rectangle.specs.declared.Found.the-variants.{Short, Double, Refused}
 
@@ -90,19 +91,25 @@ refusalOf (value.Date p n) = fine
 refusalOf (value.Coordinates p n) = fine
 refusalOf value.Empty = fine
 
--- the type of column k of a layout; text, which has no coordinates, where there is none
-unfoldable pub kindAt : Layout → ℕ → FieldType
-kindAt l k = cond (noSuch mostColumns k) type.Text (columnAt l k .kind)
+-- the bounds of the coordinates that a value shows, or its refusal
+unfoldable pub foundIn : List ℕ → FieldType → Order → ℕ → Value → Answer
+foundIn file kind o k v = cond (eqb (refusalOf v .number) 0) (byType kind o (partOf file v) k) (refusedWith (refusalOf v))
 
--- with the value that the row and column give: its 13 (no such row, no such column), 13 for another type, its 10, 11 or 9, then the
--- bounds with their 12
-unfoldable pub foundIn : List ℕ → Layout → ℕ → Value → Answer
-foundIn file l k v =
-    cond (eqb (refusalOf v .number) 13) (refusedWith (refusalOf v))
-    (cond (isCoordinates (kindAt l k))
-    (cond (eqb (refusalOf v .number) 0) (byType (kindAt l k) (l .order) (partOf file v) k) (refusedWith (refusalOf v)))
-    (refusedWith (refusal 13 k)))
+-- what a row gives: its own refusal, or what is found between its bounds
+abbrev pub inRow : Row → (ℕ → ℕ → Answer) → Answer
+inRow (row.Between start end) f = f start end
+inRow (row.Refused q) f = refusedWith q
 
--- THE RECTANGLE of the coordinates in column k of row i
-abbrev pub rectangleOf : List ℕ → List ℕ → Table → ℕ → ℕ → Answer
-rectangleOf file index t i k = foundIn file (t .layout) k (valueOf file index t i k)
+-- the coordinates in column k of a row from start to end: the part of the file that the field shows
+abbrev pub coordinatesIn : List ℕ → Layout → ℕ → ℕ → ℕ → List ℕ
+coordinatesIn file l k start end = partOf file (shown (l .order) file (columnAt l k) (columnPlace file l start end k) end)
+
+-- THE RECTANGLE of the coordinates in column k of row i: 13 for the row, 13 for the column, "A column of another type than C, Z, B, Y is
+-- 13", the row's own refusal, then the bounds with their 12
+unfoldable pub rectangleOf : List ℕ → List ℕ → Table → ℕ → ℕ → Answer
+rectangleOf file index t i k =
+    cond (noSuchRow t i) (refusedWith (refusal 13 i))
+    (cond (noSuchColumn (t .layout) k) (refusedWith (refusal 13 k))
+    (cond (not (isCoordinates (columnAt (t .layout) k .kind))) (refusedWith (refusal 13 k))
+    (inRow (rowOf file index t i)
+    (λ start end. byType (columnAt (t .layout) k .kind) (t .layout .order) (coordinatesIn file (t .layout) k start end) k))))

@@ -5,7 +5,7 @@ use mathlib.Core.Bool.{cond}
 use mathlib.Core.List.{List}
 use Prim.Native.Nat.{ℕ}
 use lib.Ieee.{Format, binary32, binary64}
-use Rattle.laws.specs.Lowest.{In, At}
+use Rattle.laws.specs.Lowest.{At}
 use Rattle.refusal.specs.Order.{refusal}
 use Rattle.number.specs.declared.Order.{Order}
 use Rattle.number.specs.Bytes.{number}
@@ -18,8 +18,9 @@ use Rattle.bounds.specs.Words as bounds
 use Rattle.header.specs.declared.ColumnLayout.{ColumnLayout}
 use Rattle.opening.specs.declared.Table.{Table}
 use Rattle.table.specs.declared.Row.the-variants.{Between, Refused}
-use Rattle.table.specs.Rows.{rowsOf, columnsOf, columnAt, rowOf}
+use Rattle.table.specs.Rows.{columnAt, rowOf}
 use Rattle.table.specs.Values.{valueOf, partOf}
+use Rattle.table.specs.Words.{RowThere, ColumnThere, NoRow}
 use Rattle.rectangle.specs.Rectangles.{Answer, short, double}
 
 -- "C, Z short and B, Y double coordinates, 2 or 3 parts"
@@ -39,13 +40,6 @@ abbrev pub coordinatesSaid : Order → List ℕ → ColumnLayout → ℕ → ℕ
 coordinatesSaid o s c at = cond (c .star) (number o s at 4) (c .count)
 
 module _ (file index : List ℕ) (t : Table) (i k : ℕ) where
-  -- row i and column k are there
-  abbrev pub RowThere : Type 0
-  RowThere = In (rowsOf t) i
-
-  abbrev pub ColumnThere : Type 0
-  ColumnThere = In (columnsOf (t .layout)) k
-
   -- column k has coordinates of parts of this width
   abbrev pub HasCoordinates : Format → Parts → Type 0
   HasCoordinates f p = columnAt (t .layout) k .kind ≡ typeWith f p
@@ -61,7 +55,7 @@ module _ (file index : List ℕ) (t : Table) (i k : ℕ) where
   -- "The x and y of an edge must be finite" and there is one: WHEN A RECTANGLE IS ANSWERED
   pub record Drawn (f : Format) : Type 0 where
     pub row : RowAccepted
-    pub column : ColumnThere
+    pub column : ColumnThere t k
     pub parts : Parts
     pub kind : HasCoordinates f parts
     pub accepted : bounds.Accepted (line f parts)
@@ -73,18 +67,14 @@ module _ (file index : List ℕ) (t : Table) (i k : ℕ) where
 
   -- ---- when it is refused with the number n at the place p
 
-  -- "13: no such row"
-  abbrev pub NoRow : ℕ → ℕ → Type 0
-  NoRow n p = (RowThere → ⊥) × (n ≡ 13) × (p ≡ i)
-
   -- "13: no such .. column", "A column of another type than C, Z, B, Y is 13."
   abbrev pub NoColumn : ℕ → ℕ → Type 0
-  NoColumn n p = RowThere × ((ColumnThere → ⊥) ⊎ ((f : Format) (q : Parts) → HasCoordinates f q → ⊥)) × (n ≡ 13) × (p ≡ k)
+  NoColumn n p = RowThere t i × ((ColumnThere t k → ⊥) ⊎ ((f : Format) (q : Parts) → HasCoordinates f q → ⊥)) × (n ≡ 13) × (p ≡ k)
 
   -- the row's own refusal
   pub record RowBad (n p : ℕ) : Type 0 where
-    pub row : RowThere
-    pub column : ColumnThere
+    pub row : RowThere t i
+    pub column : ColumnThere t k
     pub format : Format
     pub parts : Parts
     pub kind : HasCoordinates format parts
@@ -93,12 +83,13 @@ module _ (file index : List ℕ) (t : Table) (i k : ℕ) where
   -- "12: x or y not finite, or no coordinates", at the lowest such coordinate from 1, or at 0
   pub record LineBad (n p : ℕ) : Type 0 where
     pub row : RowAccepted
-    pub column : ColumnThere
+    pub column : ColumnThere t k
     pub format : Format
     pub parts : Parts
     pub kind : HasCoordinates format parts
     pub number-12 : n ≡ notFiniteOrNone
     pub place : ((count (line format parts) ≡ 0) × (p ≡ 0)) ⊎ At (unfit (line format parts)) (count (line format parts)) p
 
+  -- a rectangle is refused: "13: no such row" first, as a value is
   abbrev pub RefusedWith : ℕ → ℕ → Type 0
-  RefusedWith n p = NoRow n p ⊎ (NoColumn n p ⊎ (RowBad n p ⊎ LineBad n p))
+  RefusedWith n p = NoRow t i n p ⊎ (NoColumn n p ⊎ (RowBad n p ⊎ LineBad n p))

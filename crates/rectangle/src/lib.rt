@@ -6,15 +6,16 @@ use bounds::Rectangle32;
 use bounds::Rectangle64;
 use field::FieldType;
 use header::Layout;
-use header::MOST_COLUMNS;
 use number::Order;
 use refusal::Refusal;
 use opening::Table;
 use table::Value;
 ghost use mathlib.Core.Path.{_≡_};
+ghost use mathlib.Core.Bool.{false};
 ghost use Rattle.bounds.specs.Bounds.{bounds32, bounds64};
 ghost use Rattle.refusal.specs.Order.{refusal as refused};
-ghost use Rattle.rectangle.specs.Rectangles.{refusedWith, answer, inShort, inDouble, byType, isCoordinates, refusalOf, kindAt, foundIn, rectangleOf};
+ghost use Rattle.table.specs.Rows.{noSuchColumn, columnAt};
+ghost use Rattle.rectangle.specs.Rectangles.{refusedWith, answer, inShort, inDouble, byType, isCoordinates, refusalOf, foundIn, rectangleOf};
 
 // Refusal 13: no such row or column, or a column without coordinates.
 const NO_SUCH: u32 = 13;
@@ -43,10 +44,11 @@ fn double_found(b: Bounds64) -> Found
     }
 }
 
-fn no_coordinates(column: usize) -> Found
-    ensures { λ r. ⌜ answer r ≡ refusedWith (refused 13 column) ⌝ }
+// 13 with the asked number.
+fn no_rectangle(asked: usize) -> Found
+    ensures { λ r. ⌜ answer r ≡ refusedWith (refused 13 asked) ⌝ }
 {
-    Found::Refused(refusal::refuse(NO_SUCH, column))
+    Found::Refused(refusal::refuse(NO_SUCH, asked))
 }
 
 // The bounds of the coordinates in a part of the file, by the column's type.
@@ -58,15 +60,15 @@ fn in_part(part: &[u8], kind: FieldType, order: Order, column: usize) -> Found
         FieldType::ShortTriple => short_found(bounds::find_bounds32(part, Parts::Three, order)),
         FieldType::DoublePair => double_found(bounds::find_bounds64(part, Parts::Two, order)),
         FieldType::DoubleTriple => double_found(bounds::find_bounds64(part, Parts::Three, order)),
-        FieldType::Text => no_coordinates(column),
-        FieldType::Latin => no_coordinates(column),
-        FieldType::Float => no_coordinates(column),
-        FieldType::Double => no_coordinates(column),
-        FieldType::Short => no_coordinates(column),
-        FieldType::Integer => no_coordinates(column),
-        FieldType::Date => no_coordinates(column),
-        FieldType::NullField => no_coordinates(column),
-        FieldType::Triplet => no_coordinates(column),
+        FieldType::Text => no_rectangle(column),
+        FieldType::Latin => no_rectangle(column),
+        FieldType::Float => no_rectangle(column),
+        FieldType::Double => no_rectangle(column),
+        FieldType::Short => no_rectangle(column),
+        FieldType::Integer => no_rectangle(column),
+        FieldType::Date => no_rectangle(column),
+        FieldType::NullField => no_rectangle(column),
+        FieldType::Triplet => no_rectangle(column),
     }
 }
 
@@ -113,44 +115,42 @@ fn refusal_of(v: Value) -> Refusal
     }
 }
 
-// The type of a column; text where there is none.
+// The type of a column that is there.
 fn kind_at(layout: Layout, column: usize) -> FieldType
-    ensures { λ r. ⌜ r ≡ kindAt layout column ⌝ }
+    requires { ⌜ noSuchColumn layout column ≡ false ⌝ }
+    ensures { λ r. ⌜ r ≡ columnAt layout column .kind ⌝ }
 {
-    if column == 0 {
-        return FieldType::Text;
-    }
-    if MOST_COLUMNS < column {
-        return FieldType::Text;
-    }
     let c = layout.cols[column - 1];
     c.kind
 }
 
-// 13, another type's 13, the row's own refusals, then the bounds.
-fn found_in(file: &[u8], layout: Layout, column: usize, v: Value) -> Found
-    ensures { λ r. ⌜ answer r ≡ foundIn (now (file .entry)) layout column v ⌝ }
+// The bounds of the coordinates that a value shows, or the refusal of its row.
+fn found_in(file: &[u8], kind: FieldType, order: Order, column: usize, v: Value) -> Found
+    ensures { λ r. ⌜ answer r ≡ foundIn (now (file .entry)) kind order column v ⌝ }
 {
     let q = refusal_of(v);
-    if q.number == NO_SUCH {
-        return Found::Refused(q);
+    if q.number == 0 {
+        return in_part(table::part_of(file, v), kind, order, column);
     }
-    let kind = kind_at(layout, column);
-    if has_coordinates(kind) {
-        if q.number == 0 {
-            let order = layout.order;
-            return in_part(table::part_of(file, v), kind, order, column);
-        }
-        return Found::Refused(q);
-    }
-    no_coordinates(column)
+    Found::Refused(q)
 }
 
-// The rectangle of the coordinates in a column of a row.
+// The rectangle of the coordinates in a column of a row: 13 for the row, for the column, for another type, the row's own refusals, then
+// the bounds.
 pub fn find_rectangle(file: &[u8], index: &[u8], table: Table, row: usize, column: usize) -> Found
     ensures { λ r. ⌜ answer r ≡ rectangleOf (now (file .entry)) (now (index .entry)) table row column ⌝ }
 {
-    let v = table::read_value(file, index, table, row, column);
+    if table::no_such_row(table.rows, row) {
+        return no_rectangle(row);
+    }
     let layout = table.layout;
-    found_in(file, layout, column, v)
+    if table::no_such_column(layout, column) {
+        return no_rectangle(column);
+    }
+    let kind = kind_at(layout, column);
+    if has_coordinates(kind) {
+        let order = layout.order;
+        return found_in(file, kind, order, column, table::read_value(file, index, table, row, column));
+    }
+    no_rectangle(column)
 }

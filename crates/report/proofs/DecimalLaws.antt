@@ -38,6 +38,15 @@ spelled-short (suc most) n =
     (λ c. rw (spelled-one most n c) (omega arith))
     (λ c. rw (spelled-more most n (omega arith)) (simp length-append (omega (arith, spelled-short most (n / 10)))))
 
+-- a number of so many digits has no more
+spelled-few : (most m n : ℕ) → n < 10 ^ suc m → length (spelled most n) ≤ suc m
+spelled-few zero m n h = omega arith
+spelled-few (suc most) zero n h = rw (spelled-one most n h) (omega arith)
+spelled-few (suc most) (suc m) n h =
+    by-cases (decLt n 10)
+    (λ c. rw (spelled-one most n c) (omega arith))
+    (λ c. rw (spelled-more most n (omega arith)) (simp length-append (omega (arith, spelled-few most m (n / 10) (tenth-below (suc m) n h)))))
+
 -- ---- of a number as the lines have it
 pub decimal-one : (n : ℕ) → n < 10 → decimal n ≡ digit n ∷ []
 unfolding decimal
@@ -51,6 +60,10 @@ decimal-more n h u =
 pub decimal-short : (n : ℕ) → length (decimal n) ≤ mostDigits
 unfolding decimal
 decimal-short n = spelled-short mostDigits n
+
+pub decimal-few : (m n : ℕ) → n < 10 ^ suc m → length (decimal n) ≤ suc m
+unfolding decimal
+decimal-few m n h = spelled-few mostDigits m n h
 
 -- the length of a number is that of its tenth and one more
 pub decimal-longer : (n : ℕ) → 10 ≤ n → n < 10 ^ mostDigits → length (decimal n) ≡ length (decimal (n / 10)) + 1

@@ -1,19 +1,19 @@
--- Every line fits the buffer that is lent for it, whatever its numbers; and a line written piece by piece is the whole line.
--- Assumes nothing.
+-- Every line fits the room that is asked for it, whatever its numbers; and a line written piece by piece is the whole line.
 use mathlib.Core.Path.{_≡_, refl, ap, _∙_}
 use mathlib.Core.List.{List, [], _∷_, _++_}
-use Prim.Native.Nat.{ℕ, _+_, _≤_}
+use Prim.Native.Nat.{ℕ, _+_, _≤_, _<_}
 use native.Mathlib.Omega.{arith}
+use borrow.Author.Tests.{le-ltb}
 use lib.ListN.{length, length-append}
-use Rattle.laws.specs.Pieces.{Begun}
+use Rattle.laws.specs.Serving.Pieces.{Begun}
 use Rattle.laws.proofs.PieceLaws.{begun-front}
 use Rattle.refusal.specs.declared.Refusal.{Refusal}
 use Rattle.load.specs.declared.Counts.{Counts}
 use Rattle.report.specs.declared.FileName.{FileName}
 use Rattle.report.specs.declared.FileName.the-variants.{Edg, Edx, Fac, Rng, Cnd, Cnx}
 use Rattle.report.specs.Text.{decimal}
-use Rattle.report.specs.Lines.{fileText, refuseLine, acceptLine, ringLine, stepsLine, lineRoom, withLine}
-use Rattle.report.proofs.DecimalLaws.{decimal-short}
+use Rattle.report.specs.Lines.{fileText, refuseLine, acceptLine, ringLine, stepsLine, lineRoom, told, bytesTold}
+use Rattle.report.proofs.DecimalLaws.{decimal-short, decimal-few}
 
 pub file-text : (f : FileName) → length (fileText f) ≡ 3
 file-text Edg = refl
@@ -37,13 +37,18 @@ pub ring-fits : (row face steps : ℕ) → length (ringLine row face steps) ≤ 
 unfolding ringLine
 ring-fits row face steps = simp length-append (omega (arith, decimal-short row, decimal-short face, decimal-short steps))
 
+-- a ring's line with three numbers of four digits
+pub ring-short : (row face steps : ℕ) → row < 10000 → face < 10000 → steps < 10000 → length (ringLine row face steps) ≤ 31
+unfolding ringLine
+ring-short row face steps a b c = simp length-append (omega (arith, decimal-few 3 row a, decimal-few 3 face b, decimal-few 3 steps c))
+
 pub steps-fits : (n : ℕ) → length (stepsLine n) ≤ lineRoom
 unfolding stepsLine
 steps-fits n = simp length-append (omega (arith, decimal-short n))
 
 -- the pieces are the line's, and the buffer has room for it
-pub line-written : {d text e : List ℕ} {at : ℕ} (line : List ℕ) → Begun d text at e → text ≡ line → length line ≤ lineRoom → length d ≡ lineRoom
-    → (at ≡ length line) × (e ≡ withLine line d)
+pub line-written : {d text e : List ℕ} {at : ℕ} (line : List ℕ) → Begun d text at e → text ≡ line → length line ≤ lineRoom → lineRoom ≤ length d
+    → (at ≡ bytesTold line d) × (e ≡ told line d)
 line-written {d} {text} {e} {at} line b q h l =
     let w : Begun d line at e = rw q at b in
-    (w .place, begun-front w (omega arith))
+    rw (le-ltb (length d) lineRoom l) (w .place, begun-front w (omega arith))

@@ -32,5 +32,5 @@ shown-exactly cnd =
     let l = headerOf cnd .layout in
     let p = tripletColumn l in (
       λ e. let a = lowest-pos p (columnsOf l) (ltb-true 0 (lowest p (columnsOf l)) e) in record { column = lowest p (columnsOf l); pos = a .pos; within = a .within; is = a .passes },
-      λ s. lt-ltb 0 (lowest p (columnsOf l)) (lowest-some p (columnsOf l) (s .column) (s .pos) (s .within) (s .is))
+      λ s. lt-ltb 0 (lowest p (columnsOf l)) (lowest-some p (columnsOf l) (s .column) (s .pos) (s .within) (s .is)),
     )

@@ -20,8 +20,8 @@ use Rattle.side.specs.Edges.{outside}
 use Rattle.report.specs.declared.FileName.{FileName}
 use Rattle.report.specs.declared.FileName.the-variants.{Edg, Edx, Fac, Rng, Cnd, Cnx}
 use Rattle.report.specs.declared.Sizes.{Sizes}
-use Rattle.report.specs.declared.TooLarge.{TooLarge}
-use Rattle.report.specs.declared.TooLarge.the-variants.{Is, Nothing}
+use Rattle.report.specs.declared.AtFault.{AtFault}
+use Rattle.report.specs.declared.AtFault.the-variants.{Is, Nothing}
 
 abbrev pub mostBytes : ℕ
 mostBytes = 65536
@@ -30,7 +30,7 @@ abbrev pub mostRows : ℕ
 mostRows = 1000
 
 -- "Larger is 15: sizes first, in that order (cnx's once cnd's header is accepted and shows K)"
-unfoldable pub tooLarge : Sizes → Bool → TooLarge
+unfoldable pub tooLarge : Sizes → Bool → AtFault
 tooLarge z cnxRead =
     cond (ltb mostBytes (z .edg)) (Is Edg)
     (cond (ltb mostBytes (z .edx)) (Is Edx)

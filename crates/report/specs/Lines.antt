@@ -1,6 +1,8 @@
 -- The lines that the program writes.
+use mathlib.Core.Bool.{cond}
 use mathlib.Core.List.{List, [], _∷_, _++_}
 use Prim.Native.Nat.{ℕ}
+use lib.Dec.{ltb}
 use lib.ListN.{length, drop}
 use Rattle.refusal.specs.declared.Refusal.{Refusal}
 use Rattle.load.specs.declared.Counts.{Counts}
@@ -59,10 +61,17 @@ ringLine row face steps =
 unfoldable pub stepsLine : ℕ → List ℕ
 stepsLine n = stepsText ++ (decimal n ++ (lineEnd ∷ []))
 
--- the bytes of the buffer that is lent for a line; every line fits, whatever its numbers
+-- room for every line, whatever its numbers
 abbrev pub lineRoom : ℕ
 lineRoom = 128
 
--- a lent buffer with a line at its front, the rest as it was
-abbrev pub withLine : List ℕ → List ℕ → List ℕ
-withLine line d = line ++ drop (length line) d
+-- a lent buffer with a text at its front, the rest as it was
+abbrev pub withFront : List ℕ → List ℕ → List ℕ
+withFront text d = text ++ drop (length text) d
+
+-- a line told into a lent buffer, and its bytes: none, and the buffer as it was, where that has not room for every line
+abbrev pub told : List ℕ → List ℕ → List ℕ
+told line d = cond (ltb (length d) lineRoom) d (withFront line d)
+
+abbrev pub bytesTold : List ℕ → List ℕ → ℕ
+bytesTold line d = cond (ltb (length d) lineRoom) 0 (length line)

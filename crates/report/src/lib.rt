@@ -13,14 +13,14 @@ ghost use Rattle.header.specs.Judge.{mostColumns};
 ghost use Rattle.load.specs.declared.TableName.the-variants.{Cnd};
 ghost use Rattle.report.specs.Text.{digit, mostDigits, decimal};
 ghost use Rattle.report.specs.Files.{tooLarge, hasTriplet, showsTriplet, ofTable, ofIndex, fileOfFinding, ringRow, fileOfVerdict};
-ghost use Rattle.report.specs.Lines.{fileText, refuseLine, acceptLine, ringLine, stepsLine, withLine};
+ghost use Rattle.report.specs.Lines.{fileText, refuseLine, acceptLine, ringLine, stepsLine, bytesTold, told};
 
 // "each at most 65,536 bytes, with at most 1,000 rows per table"
 pub const MOST_BYTES: usize = 65536;
 
 pub const MOST_ROWS: usize = 1000;
 
-// Room for every line, whatever its numbers: the longest has 115 bytes.
+// Room for every line, whatever its numbers: the longest has 115 bytes. A buffer that has less is left as it is, and no line is told.
 pub const LINE_ROOM: usize = 128;
 
 pub enum FileName {
@@ -32,7 +32,7 @@ pub enum FileName {
     Cnx,
 }
 
-// How many bytes each file has; any number above 65,536 stands for a larger file.
+// How many bytes each file is said to have; any number above 65,536 stands for a larger file.
 pub struct Sizes {
     pub edg: usize,
     pub edx: usize,
@@ -42,7 +42,8 @@ pub struct Sizes {
     pub cnx: usize,
 }
 
-pub enum TooLarge {
+// The first file that is at fault, if any.
+pub enum AtFault {
     Is(FileName),
     Nothing,
 }
@@ -63,30 +64,30 @@ const START_WRONG: u32 = 29;
 const CYCLE_OWNED: u32 = 30;
 
 // The first file that is too large, in document 01's order; cnx only where it is read.
-pub fn too_large(sizes: Sizes, cnx_read: bool) -> TooLarge
+pub fn too_large(sizes: Sizes, cnx_read: bool) -> AtFault
     ensures { λ r. ⌜ r ≡ tooLarge sizes «cnx_read» ⌝ }
 {
     if MOST_BYTES < sizes.edg {
-        return TooLarge::Is(FileName::Edg);
+        return AtFault::Is(FileName::Edg);
     }
     if MOST_BYTES < sizes.edx {
-        return TooLarge::Is(FileName::Edx);
+        return AtFault::Is(FileName::Edx);
     }
     if MOST_BYTES < sizes.fac {
-        return TooLarge::Is(FileName::Fac);
+        return AtFault::Is(FileName::Fac);
     }
     if MOST_BYTES < sizes.rng {
-        return TooLarge::Is(FileName::Rng);
+        return AtFault::Is(FileName::Rng);
     }
     if MOST_BYTES < sizes.cnd {
-        return TooLarge::Is(FileName::Cnd);
+        return AtFault::Is(FileName::Cnd);
     }
     if cnx_read {
         if MOST_BYTES < sizes.cnx {
-            return TooLarge::Is(FileName::Cnx);
+            return AtFault::Is(FileName::Cnx);
         }
     }
-    TooLarge::Nothing
+    AtFault::Nothing
 }
 
 // The columns that a layout has, whoever made it.
@@ -274,10 +275,13 @@ fn name_of(file: FileName) -> [u8; 3]
 }
 
 // "A refused tile writes `REFUSE edg 23 2`: file, number, place." How many bytes the line has.
-pub fn refuse_line(file: FileName, refused: Refusal, out: &mut [u8; LINE_ROOM]) -> usize
-    ensures { λ r. ⌜ r ≡ length (refuseLine file refused) ⌝ }
-    ensures { λ r. ⌜ now (out .exit) ≡ withLine (refuseLine file refused) (now (out .entry)) ⌝ }
+pub fn refuse_line(file: FileName, refused: Refusal, out: &mut [u8]) -> usize
+    ensures { λ r. ⌜ r ≡ bytesTold (refuseLine file refused) (now (out .entry)) ⌝ }
+    ensures { λ _. ⌜ now (out .exit) ≡ told (refuseLine file refused) (now (out .entry)) ⌝ }
 {
+    if out.len() < LINE_ROOM {
+        return 0;
+    }
     let name = name_of(file);
     let mut at = put_text(out, 0, b"REFUSE ");
     at = put_text(out, at, &name);
@@ -289,10 +293,13 @@ pub fn refuse_line(file: FileName, refused: Refusal, out: &mut [u8; LINE_ROOM]) 
 }
 
 // "ACCEPT nodes 3 edges 3 faces 2 rings 2": how many rows each table has. How many bytes the line has.
-pub fn accept_line(counts: Counts, out: &mut [u8; LINE_ROOM]) -> usize
-    ensures { λ r. ⌜ r ≡ length (acceptLine counts) ⌝ }
-    ensures { λ r. ⌜ now (out .exit) ≡ withLine (acceptLine counts) (now (out .entry)) ⌝ }
+pub fn accept_line(counts: Counts, out: &mut [u8]) -> usize
+    ensures { λ r. ⌜ r ≡ bytesTold (acceptLine counts) (now (out .entry)) ⌝ }
+    ensures { λ _. ⌜ now (out .exit) ≡ told (acceptLine counts) (now (out .entry)) ⌝ }
 {
+    if out.len() < LINE_ROOM {
+        return 0;
+    }
     let mut at = put_text(out, 0, b"ACCEPT nodes ");
     at = put_number(out, at, counts.nodes);
     at = put_text(out, at, b" edges ");
@@ -305,10 +312,13 @@ pub fn accept_line(counts: Counts, out: &mut [u8; LINE_ROOM]) -> usize
 }
 
 // "ring 1 face 1 steps 3": a ring row, its face, and the steps of its walk. How many bytes the line has.
-pub fn ring_line(row: usize, face: u32, steps: usize, out: &mut [u8; LINE_ROOM]) -> usize
-    ensures { λ r. ⌜ r ≡ length (ringLine row face steps) ⌝ }
-    ensures { λ r. ⌜ now (out .exit) ≡ withLine (ringLine row face steps) (now (out .entry)) ⌝ }
+pub fn ring_line(row: usize, face: u32, steps: usize, out: &mut [u8]) -> usize
+    ensures { λ r. ⌜ r ≡ bytesTold (ringLine row face steps) (now (out .entry)) ⌝ }
+    ensures { λ _. ⌜ now (out .exit) ≡ told (ringLine row face steps) (now (out .entry)) ⌝ }
 {
+    if out.len() < LINE_ROOM {
+        return 0;
+    }
     let mut at = put_text(out, 0, b"ring ");
     at = put_number(out, at, row);
     at = put_text(out, at, b" face ");
@@ -319,10 +329,13 @@ pub fn ring_line(row: usize, face: u32, steps: usize, out: &mut [u8; LINE_ROOM])
 }
 
 // "steps 6": the steps of all rings. How many bytes the line has.
-pub fn steps_line(n: usize, out: &mut [u8; LINE_ROOM]) -> usize
-    ensures { λ r. ⌜ r ≡ length (stepsLine n) ⌝ }
-    ensures { λ r. ⌜ now (out .exit) ≡ withLine (stepsLine n) (now (out .entry)) ⌝ }
+pub fn steps_line(n: usize, out: &mut [u8]) -> usize
+    ensures { λ r. ⌜ r ≡ bytesTold (stepsLine n) (now (out .entry)) ⌝ }
+    ensures { λ _. ⌜ now (out .exit) ≡ told (stepsLine n) (now (out .entry)) ⌝ }
 {
+    if out.len() < LINE_ROOM {
+        return 0;
+    }
     let mut at = put_text(out, 0, b"steps ");
     at = put_number(out, at, n);
     put_byte(out, at, LINE_END)

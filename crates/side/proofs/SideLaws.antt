@@ -1,7 +1,8 @@
 -- The steps of the successor's code: four rows read and the side chosen of them; the right and the left side followed.
 -- Assumes nothing.
 use mathlib.Core.Path.{_≡_, refl, _∙_}
-use mathlib.Core.Bool.{Bool, true, false, cond, _||_, true≢false}
+use mathlib.Core.Bool.{Bool, true, false, _&&_, _||_, true≢false}
+use mathlib.Core.List.{_++_}
 use Prim.Native.Nat.{ℕ, _*_, _%_, _≤_, _<_}
 use native.Mathlib.Omega.{arith}
 use lib.Dec.{eqb, ltb}
@@ -9,7 +10,7 @@ use borrow.Author.Tests.{eq-eqb, ne-eqb, lt-ltb, le-ltb, eqb-false, ltb-false}
 use Rattle.laws.specs.Orbit.{entry}
 use Rattle.laws.proofs.LowestLaws.{bool-cases}
 use Rattle.side.specs.Edges.{Edges, edgeCount, sideCount, edgeOf, outside, right, left, link, runsTo, face}
-use Rattle.side.specs.Successor.{leaving, leavingEdge, successor, sideOf, after}
+use Rattle.side.specs.Successor.{sideIf, theOne, leaving, leavingEdge, successor, sideOf, after}
 use Rattle.side.specs.declared.Successor.{Successor}
 use Rattle.side.specs.declared.Successor.the-variants.{Side, Wrong}
 
@@ -57,8 +58,7 @@ Sound n (Wrong w) = (22 ≤ w) × (w ≤ 25)
 
 -- p, q: the edge's start, its end is the node; x, y: its right, its left face is the face
 leaving-sound : (k m : ℕ) (p q x y : Bool) → 0 < k → k ≤ m
-    → Sound (2 * m)
-    (cond p (cond q (cond x (cond y (Wrong 25) (Side (right k))) (cond y (Side (left k)) (Wrong 24))) (cond x (Side (right k)) (Wrong 24))) (cond q (cond y (Side (left k)) (Wrong 24)) (Wrong 23)))
+    → Sound (2 * m) (theOne (sideIf p (right k) ++ sideIf q (left k)) (sideIf (p && x) (right k) ++ sideIf (q && y) (left k)))
 leaving-sound k m true true true true a b = (omega arith, omega arith)
 leaving-sound k m true true true false a b = (omega arith, omega arith)
 leaving-sound k m true true false true a b = (omega arith, omega arith)

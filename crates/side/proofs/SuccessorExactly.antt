@@ -13,7 +13,7 @@ use Rattle.laws.specs.Orbit.{entry}
 use Rattle.laws.proofs.LowestLaws.{bool-cases}
 use Rattle.laws.proofs.TestLaws.{or-false, nonzero, not-above}
 use Rattle.side.specs.Edges.{Edges, edgeCount, sideCount, outside, right, left, edgeOf, bySide, face, runsTo, link, leavesFrom}
-use Rattle.side.specs.Successor.{leaving, leavingEdge, successor, sideOf, after, Leaves, Follows, Fault, no-touch, other-face, both-sides}
+use Rattle.side.specs.Successor.{leaving, leavingEdge, successor, sideOf, after, LinkIn, Leaves, Follows, Fault, no-touch, other-face, both-sides}
 use Rattle.side.specs.declared.Successor.{Successor}
 use Rattle.side.specs.declared.Successor.the-variants.{Side, Wrong}
 
@@ -29,7 +29,7 @@ module _ (k : ℕ) (pos : 0 < k) where
   pub edge-of-left : edgeOf (left k) ≡ k
   edge-of-left = omega arith
 
-  right-or-left : (u : ℕ) → edgeOf u ≡ k → (u ≡ right k) ⊎ (u ≡ left k)
+  pub right-or-left : (u : ℕ) → edgeOf u ≡ k → (u ≡ right k) ⊎ (u ≡ left k)
   right-or-left u e = by-cases (ℕ-discrete (u % 2) 1) (λ o. inl (omega arith)) (λ o. inr (omega arith))
 
   at-right : (r l : ℕ) → bySide (right k) r l ≡ r
@@ -115,10 +115,6 @@ departs sn en rf lf k v f =
     (λ y. rw (p, q, y) (by-left (ends q) (on-left y) (λ a b. no-start p a)))
     (λ y. rw (p, q, y) (with-other-face (inr (ends q)) (λ a b. no-start p a) (λ a b. not-left y b))))
     (λ q. rw (p, q) (by-neither (no-start p) (no-end q))))
-
--- "links in 1..E", at the side s
-abbrev pub LinkIn : Edges → ℕ → Type 0
-LinkIn t s = (0 < link t s) × (link t s ≤ edgeCount t)
 
 -- each answer in words
 abbrev pub Says : Edges → ℕ → Successor → Type 0

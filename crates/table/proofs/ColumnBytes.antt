@@ -26,7 +26,7 @@ use Rattle.header.proofs.ColumnsJudged.{numeral-not-star}
 use Rattle.header.proofs.LayoutMeans.{laid-out}
 use Rattle.opening.specs.Words.{layoutOf}
 use Rattle.table.specs.Words.{FieldEnds}
-use Rattle.opening.proofs.OpenedExactly.{in-reading}
+use Rattle.opening.proofs.RowWidth.{in-reading}
 use Rattle.table.proofs.FieldExactly.{triplet-kind}
 
 -- a column of this type has the count 1, and so the bytes of one element

@@ -10,5 +10,6 @@ pub mod ColumnBytes
 pub mod ValueOfRow
 pub mod SignedLaws
 pub mod ValueLaws
+pub mod ValueRefusedExactly
 pub mod RowRefusedExactly
 pub mod PlanLaws

@@ -31,10 +31,11 @@ use Rattle.table.specs.declared.Reach.{Reach}
 use Rattle.table.specs.declared.Reach.the-variants.{At, Short, Cut}
 use Rattle.table.specs.declared.Row.the-variants.{Between}
 use Rattle.opening.specs.Opening.{mostRows, needsIndex}
-use Rattle.table.specs.Rows.{columnsOf, noSuch, noSuchRow, columnAt, boundOf, outside, reach, placeOf, placeOfColumn, idAt, idRefusal, usedUp, offsetPlace, columnPlace, fieldsRefusal, rowRefusal, rowOf}
-use Rattle.opening.specs.Words.{layoutOf, Opens, OneWidth}
+use Rattle.table.specs.Rows.{columnsOf, noSuch, noSuchRow, columnAt, boundOf, outside, reach, placeOf, placeOfColumn}
+use Rattle.table.specs.Rows.{idAt, idRefusal, usedUp, offsetPlace, columnPlace, fieldsRefusal, rowRefusal, rowOf}
+use Rattle.opening.specs.Words.{layoutOf, Opens}
 use Rattle.table.specs.Words.{RowRight}
-use Rattle.opening.proofs.OpenedExactly.{one-width-exactly, in-reading}
+use Rattle.opening.proofs.RowWidth.{OneWidth, one-width-exactly, in-reading}
 use Rattle.table.proofs.RowsPartition.{row-inside, row-width}
 use Rattle.table.proofs.FieldExactly.{next-field, walk-fields, fields-end, place-found}
 

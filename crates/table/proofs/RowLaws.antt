@@ -1,5 +1,5 @@
 -- What the tests before a row's fields say: that the row lies inside the file, that a column or row is there. Assumes nothing.
-use mathlib.Core.Path.{_≡_, sym}
+use mathlib.Core.Path.{_≡_, sym, _∙_}
 use mathlib.Core.Bool.{Bool, false}
 use mathlib.Core.List.{List}
 use Prim.Native.Nat.{ℕ, _≤_, _<_}
@@ -30,11 +30,10 @@ such n k e =
     (omega arith, ltb-false n k (b .1))
 
 -- row i is there
-pub row-there : (t : Table) (n i : ℕ) (b : Bool) → n ≡ rowsOf t → b ≡ noSuch n i → b ≡ false → (noSuchRow t i ≡ false) × (0 < i) × (i ≤ mostRows)
-row-there t n i b e f g =
-    let h : noSuchRow t i ≡ false = rw (← e, ← f) g in
-    let k = such (rowsOf t) i h in
-    (h, k .0, omega (arith, k .1))
+pub row-there : (t : Table) (i : ℕ) (b : Bool) → b ≡ noSuchRow t i → b ≡ false → (noSuchRow t i ≡ false) × (0 < i) × (i ≤ mostRows)
+row-there t i b e f =
+    let k = such (rowsOf t) i (sym e ∙ f) in
+    (sym e ∙ f, k .0, omega (arith, k .1))
 
 -- fields can be looked for
 pub place-fine : (s : List ℕ) (l : Layout) (start end i : ℕ) (q : Refusal) → q ≡ placeRefusal s l start end i → q .number ≡ 0

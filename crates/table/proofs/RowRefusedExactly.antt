@@ -123,13 +123,14 @@ module _ (s : List ℕ) (l : Layout) (start end : ℕ) where
       → fieldEnd (l .order) s end (columnAt l k) p ≡ x → reach s l start end n ≡ x
   stops-through x h k n p i e f = stays s l start end x h k (reach-at k p (i .0) e ∙ f) n (i .1)
 
--- ---- the rows of an opened table
-refusal-parts : (a b n p : ℕ) → refusal a b ≡ refusal n p → (n ≡ a) × (p ≡ b)
+-- ---- the parts of a refusal
+pub refusal-parts : (a b n p : ℕ) → refusal a b ≡ refusal n p → (n ≡ a) × (p ≡ b)
 refusal-parts a b n p e = (ap (λ (r : Refusal). r .number) (sym e), ap (λ (r : Refusal). r .place) (sym e))
 
-parts-refusal : (a b n p : ℕ) → n ≡ a → p ≡ b → refusal a b ≡ refusal n p
+pub parts-refusal : (a b n p : ℕ) → n ≡ a → p ≡ b → refusal a b ≡ refusal n p
 parts-refusal a b n p u v = (λ i. refusal (sym u i) (sym v i))
 
+-- ---- the rows of an opened table
 module _ (file index : List ℕ) (most : ℕ) (h : Reading) (rows : ℕ) (o : Opens file index most h rows) (i : ℕ) (r : In rows i) where
   abbrev l : Layout
   l = layoutOf file

@@ -1,7 +1,7 @@
 -- IN AN OPENED TABLE THE ROWS PARTITION THE BODY: the first starts at L + 4, each next where the last ended, the last ends with the
 -- file, and every byte of the body lies in exactly one row. Assumes nothing.
 use mathlib.Core.Path.{_≡_, refl, sym, _∙_}
-use mathlib.Core.Logic.{⊎-elim}
+use mathlib.Core.Logic.{_↔_, inl, inr, ⊎-elim}
 use mathlib.Core.List.{List}
 use Prim.Native.Nat.{ℕ, zero, suc, pred, _+_, _*_, _≤_, _<_}
 use native.Mathlib.Omega.{arith}
@@ -12,11 +12,13 @@ use Rattle.laws.specs.Partition.{Partition}
 use Rattle.laws.proofs.PartitionLaws.{partition}
 use Rattle.grammar.specs.Words.{Reading}
 use Rattle.header.specs.declared.Layout.{Layout}
-use Rattle.opening.specs.Opening.{endAt}
+use Rattle.opening.specs.Opening.{offsetAt, lengthAt, endAt}
 use Rattle.table.specs.Rows.{boundOf}
-use Rattle.opening.specs.Words.{layoutOf, FixedBody, Opens, OneWidth, NoWidth}
+use Rattle.table.specs.Words.{Lies}
+use Rattle.opening.specs.Words.{layoutOf, FixedBody, Opens}
 use Rattle.opening.proofs.OpeningLaws.{end-first, end-entry}
-use Rattle.opening.proofs.OpenedExactly.{no-width-exactly, one-width-exactly, starts-right, ends-right}
+use Rattle.opening.proofs.RowWidth.{OneWidth, NoWidth, no-width-exactly, one-width-exactly, says-one-width, says-no-width}
+use Rattle.opening.proofs.OpenedExactly.{starts-right, ends-right}
 
 -- where row k ends: k widths past the start, or by its entry
 pub bound-fixed : (l : Layout) (index : List ℕ) (k : ℕ) → 0 < l .width → boundOf l index k ≡ l .start + l .width * k
@@ -66,3 +68,32 @@ module _ (file index : List ℕ) (most : ℕ) (h : Reading) (n : ℕ) (o : Opens
   pub row-width : OneWidth file → (i : ℕ) → In n i → boundOf l index i ≡ boundOf l index (pred i) + l .width
   row-width w zero r = absurd (omega (arith, r .0))
   row-width w (suc i) r = rw (bound-fixed l index (suc i) w, bound-fixed l index i w) (omega arith)
+
+  -- ROW i LIES IN WORDS EXACTLY from the bound before it to its own
+  pub row-lies : (i : ℕ) → In n i → (start end : ℕ) → Lies file index i start end ↔ ((start ≡ boundOf l index (pred i)) × (end ≡ boundOf l index i))
+  row-lies i r start end = (
+    ⊎-elim
+        (λ w.
+        let q = says-one-width file (w .0) in
+        let b = bound-fixed l index (pred i) q in
+        (omega (arith, w .1 .starts, b), omega (arith, w .1 .starts, w .1 .ends, b, row-width q i r)))
+        (λ w. let b = by-entry (says-no-width file (w .0)) in (omega (arith, w .1 .starts, b .0), omega (arith, w .1 .starts, w .1 .ends, b .1))),
+    λ e.
+        ⊎-elim
+        (λ w.
+        let q = one-width-exactly file h (o .header) .1 (w .0) in
+        inl ((h, o .header, w .0), record {
+          starts = e .0 ∙ bound-fixed l index (pred i) q;
+          ends = omega (arith, e .0, e .1, row-width q i r);
+        }))
+        (λ w.
+        let b = by-entry (no-width-exactly file h (o .header) .1 (w .0)) in
+        inr ((h, o .header, w .0), record { starts = omega (arith, e .0, b .0); ends = omega (arith, e .0, e .1, b .0, b .1) }))
+        (o .body),
+  )
+    where
+      by-entry : NoWidth file → (boundOf l index (pred i) ≡ offsetAt l index i) × (boundOf l index i ≡ offsetAt l index i + lengthAt l index i)
+      by-entry q = (
+        bound-indexed l index (pred i) q ∙ sym (starts-right file index most h n o q i r),
+        bound-indexed l index i q ∙ sym (end-entry l index i (λ z. omega (arith, r .0))),
+      )

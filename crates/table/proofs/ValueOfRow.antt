@@ -35,9 +35,9 @@ use Rattle.table.specs.declared.Value.the-variants as val
 use Rattle.table.specs.Rows.{columnAt, boundOf, starEnd, tripletEnd, fieldEnd, onward, reach, placeOf, placeOfColumn, idRefusal, usedUp, columnPlace, rowRefusal}
 use Rattle.table.specs.Values.{shortOf, integerOf, floatOf, doubleOf, elementsStart, elementsBytes, tripletOfRead, byType, shown, valueOf}
 use Rattle.opening.specs.Words.{layoutOf, Opens}
-use Rattle.table.specs.Words.{FieldEnds, RowRight, SameRow, PartInside}
+use Rattle.table.specs.Words.{FieldEnds, Fields, RowRight, SameRow, PartInside}
 use Rattle.table.proofs.WalkLaws.{reach-within}
-use Rattle.table.proofs.FieldExactly.{came, passed, next-field, field-at, fields-end}
+use Rattle.table.proofs.FieldExactly.{came, passed, next-field, field-at, fields-end, place-found}
 use Rattle.table.proofs.ColumnBytes.{OneElement, column-one-element, id-kind, ends-after, element-room, star-room, fixed-room}
 use Rattle.table.proofs.RowExactly.{there, means, columns-all, forward, inside-file, place-by-walk, row-by-walk, row-there, row-of-exactly}
 
@@ -231,22 +231,28 @@ module _ (file index : List ℕ) (most : ℕ) (h : Reading) (n : ℕ) (o : Opens
     before-end : at ≤ end
     before-end = reach-within file l start end (pred k) at onwards within came-to
 
-    field : FieldEnds (l .order) file end (layoutAt l k) at (placeOfColumn file l start end (suc k))
-    field = field-at file l start end onwards within (l .columns) end came-through k c
+    pub field-there : FieldEnds (l .order) file end (layoutAt l k) at (placeOfColumn file l start end (suc k))
+    field-there = field-at file l start end onwards within (l .columns) end came-through k c
 
     -- the value is that of the field where the walk finds it
-    value-shown : valueOf file index opened i k ≡ shown (l .order) file (layoutAt l k) at end
+    pub value-shown : valueOf file index opened i k ≡ shown (l .order) file (layoutAt l k) at end
     unfolding valueOf
     value-shown =
         rw (row-there file index most h n o i r, columns-all file index most h n o, there (l .columns) k c, row-of-exactly file index most h n o i r .1 right)
         (ap (λ (p : ℕ). shown (l .order) file (layoutAt l k) p end) (place-by-walk file index most h n o i r file within k c))
 
-    -- THE VALUE IS A FUNCTION OF THE ROW'S OWN BYTES
-    pub value-of-row : (t : List ℕ) (e : SameRow file t start end) → valueOf file index opened i k ≡ shown (l .order) t (columnAt l k) (columnPlace t l start end k) end
-    value-of-row t e =
+    -- and so it is over any file with the same bytes there
+    value-shown-of : (t : List ℕ) → SameRow file t start end → valueOf file index opened i k ≡ shown (l .order) t (layoutAt l k) at end
+    value-shown-of t e =
         value-shown
-        ∙ shown-same file t start end e onwards (l .order) (layoutAt l k) at (placeOfColumn file l start end (suc k)) after-start before-end field
+        ∙ shown-same file t start end e onwards (l .order) (layoutAt l k) at (placeOfColumn file l start end (suc k)) after-start before-end field-there
         (column-one-element file h (o .header) k c)
+
+    -- THE VALUE IS A FUNCTION OF THE ROW'S OWN BYTES, by the place that the definition has
+    pub value-of-row : (t : List ℕ) (e : SameRow file t start end)
+        → valueOf file index opened i k ≡ shown (l .order) t (columnAt l k) (columnPlace t l start end k) end
+    value-of-row t e =
+        value-shown-of t e
         ∙ ap (λ (p : ℕ). shown (l .order) t (layoutAt l k) p end)
         (place-same file t start end e onwards l k ∙ sym (place-by-walk file index most h n o i r t (e .in-second) k c))
 
@@ -254,4 +260,25 @@ module _ (file index : List ℕ) (most : ℕ) (h : Reading) (n : ℕ) (o : Opens
     pub value-inside : PartInside start end (valueOf file index opened i k)
     value-inside =
         subst (PartInside start end) (sym value-shown)
-        (shown-inside start end (l .order) file (layoutAt l k) at (placeOfColumn file l start end (suc k)) after-start field (column-one-element file h (o .header) k c))
+        (shown-inside start end (l .order) file (layoutAt l k) at (placeOfColumn file l start end (suc k)) after-start field-there (column-one-element file h (o .header) k c))
+
+  -- ---- THE VALUE IS THE FIELD OF ITS COLUMN, at the place where the fields before it end: whatever places the fields have in words
+  module _ (place : ℕ → ℕ) (f : Fields file l start end place) (id : number (l .order) file (place (l .id)) 4 ≡ i) (k : ℕ) (c : In (l .columns) k) where
+    abbrev row-right : RowRight file l start end i
+    row-right = record { place = place; fields = f; id = id }
+
+    placed : placeOfColumn file l start end k ≡ place k
+    placed =
+        place-found file l start end (forward file index most h n o i r) (inside-file file index most h n o i r) place f k (c .0, omega (arith, c .1))
+
+    -- the place that the definition has is that place
+    pub column-placed : columnPlace file l start end k ≡ place k
+    column-placed = place-by-walk file index most h n o i r file (inside-file file index most h n o i r) k c ∙ placed
+
+    pub value-at-place : valueOf file index opened i k ≡ shown (l .order) file (layoutAt l k) (place k) end
+    value-at-place = value-shown row-right k c ∙ ap (λ (p : ℕ). shown (l .order) file (layoutAt l k) p end) placed
+
+    -- and it depends on its row's own bytes alone: another file with the same bytes there shows the same
+    pub value-of-own-bytes : (t : List ℕ) → SameRow file t start end
+        → valueOf file index opened i k ≡ shown (l .order) t (layoutAt l k) (place k) end
+    value-of-own-bytes t e = value-shown-of row-right k c t e ∙ ap (λ (p : ℕ). shown (l .order) t (layoutAt l k) p end) placed

@@ -33,8 +33,8 @@ floatOf bits = cond (floatIsNull bits) (FloatNull bits) (Float bits)
 abbrev pub doubleOf : ℕ → Value
 doubleOf bits = cond (doubleIsNull bits) (DoubleNull bits) (Double bits)
 
--- where the elements of a field at p start, in a row that ends at `end`, and how many bytes they have: a `*` field begins with
--- their count
+-- where the elements of a field at p start, in a row that ends at `end`, and how many bytes they have. "A `*` field begins with an
+-- unsigned four-byte count of its elements": they start after it (within the row in any case), and each has its type's bytes
 abbrev pub elementsStart : ColumnLayout → ℕ → ℕ → ℕ
 elementsStart c p end = cond (c .star) (min (p + 4) end) p
 
@@ -45,7 +45,10 @@ abbrev pub tripletOfRead : read.Triplet → Value
 tripletOfRead (read.the-variants.Is ids n) = Triplet ids
 tripletOfRead (read.the-variants.Refused q) = Refused q
 
--- the value of the field at p, by the column's type, in a row that ends at `end`
+-- THE VALUE OF A FIELD at p, by its column's type, in a row that ends at `end`.
+-- "T, L text", a byte each: its part of the file. "F, R float", "4, 8" bytes. "S, I integer", "2, 4" bytes.
+-- "C, Z short and B, Y double coordinates, 2 or 3 parts": their part of the file. "D date", 20 bytes: its part of the file.
+-- "X null field", 0 bytes. "K triplet", "1 to 13" bytes: the three ids that the row goes on with
 abbrev pub byType : FieldType → Order → List ℕ → ColumnLayout → ℕ → ℕ → Value
 byType type.Text o s c p end = Text (elementsStart c p end) (elementsBytes o s c p)
 byType type.Latin o s c p end = Text (elementsStart c p end) (elementsBytes o s c p)

@@ -6,6 +6,7 @@ use mathlib.Core.List.{List}
 use Prim.Native.Nat.{ℕ, suc, pred, _+_, _-_, _*_, _≤_}
 use lib.ListN.{length, take, drop}
 use Rattle.laws.specs.Lowest.{In, Each}
+use Rattle.refusal.specs.Order.{refusal}
 use Rattle.number.specs.declared.Order.{Order}
 use Rattle.number.specs.Bytes.{number}
 use Rattle.field.specs.declared.FieldType.the-variants.{Triplet}
@@ -15,8 +16,30 @@ use Rattle.triplet.specs.Words.{BeginsWith, BadAt}
 use Rattle.header.specs.declared.ColumnLayout.{ColumnLayout}
 use Rattle.header.specs.declared.Layout.{Layout}
 use Rattle.header.specs.LayoutWords.{layoutAt}
+use Rattle.opening.specs.declared.Table.{Table}
+use Rattle.opening.specs.Opening.{offsetAt, lengthAt}
+use Rattle.opening.specs.Words.{layoutOf, HasOneWidth, NeedsIndex}
+use Rattle.table.specs.declared.Row.the-variants as row
 use Rattle.table.specs.declared.Value.{Value}
 use Rattle.table.specs.declared.Value.the-variants as value
+use Rattle.table.specs.Rows.{rowsOf, columnsOf, columnAt, columnPlace, rowOf}
+
+-- ---- where row i lies
+
+-- "all rows have one width": they follow one another from L + 4
+pub record LiesByWidth (l : Layout) (i start end : ℕ) : Type 0 where
+  pub starts : start ≡ l .start + l .width * pred i
+  pub ends : end ≡ start + l .width
+
+-- "n pairs of offset and length": it lies where its entry says
+pub record LiesByEntry (l : Layout) (index : List ℕ) (i start end : ℕ) : Type 0 where
+  pub starts : start ≡ offsetAt l index i
+  pub ends : end ≡ start + lengthAt l index i
+
+-- ROW i of an opened table LIES from start to end
+abbrev pub Lies : List ℕ → List ℕ → ℕ → ℕ → ℕ → Type 0
+Lies file index i start end =
+    (HasOneWidth file × LiesByWidth (layoutOf file) i start end) ⊎ (NeedsIndex file × LiesByEntry (layoutOf file) index i start end)
 
 -- ---- when a row is right: "Row i must have id i and use exactly its bytes."
 
@@ -131,3 +154,38 @@ PartInside start end (value.DoubleNull b) = Unit {0}
 PartInside start end (value.Triplet ids) = Unit {0}
 PartInside start end value.Empty = Unit {0}
 PartInside start end (value.Refused q) = Unit {0}
+
+-- ---- when a value is refused: over any table, opened or made by anybody
+
+-- row i is one of the table's rows, column k one of its columns
+abbrev pub RowThere : Table → ℕ → Type 0
+RowThere t i = In (rowsOf t) i
+
+abbrev pub ColumnThere : Table → ℕ → Type 0
+ColumnThere t k = In (columnsOf (t .layout)) k
+
+-- "13: no such row, ring or column", at the "asked number": the row's first
+abbrev pub NoRow : Table → ℕ → ℕ → ℕ → Type 0
+NoRow t i n p = (RowThere t i → ⊥) × (n ≡ 13) × (p ≡ i)
+
+abbrev pub NoColumn : Table → ℕ → ℕ → ℕ → ℕ → Type 0
+NoColumn t i k n p = RowThere t i × (ColumnThere t k → ⊥) × (n ≡ 13) × (p ≡ k)
+
+-- then the row's own refusal
+abbrev pub RowBad : List ℕ → List ℕ → Table → ℕ → ℕ → ℕ → ℕ → Type 0
+RowBad file index t i k n p = RowThere t i × ColumnThere t k × (rowOf file index t i ≡ row.Refused (refusal n p))
+
+-- last, in a row that is accepted, a field of type K that is no triplet. Such a row is walked, and so has none: it can only be where
+-- somebody made a table of one width with a column of type K, which no header gives
+pub record NoTriplet (file index : List ℕ) (t : Table) (i k n p : ℕ) : Type 0 where
+  pub column : ColumnThere t k
+  pub start : ℕ
+  pub end : ℕ
+  pub accepted : rowOf file index t i ≡ row.Between start end
+  pub kind : columnAt (t .layout) k .kind ≡ Triplet
+  pub number-11 : n ≡ 11
+  pub bad : let at = columnPlace file (t .layout) start end k in BadAt (t .layout .order) (take (end - at) (drop at file)) p
+
+-- A VALUE IS REFUSED WITH n AT p
+abbrev pub ValueRefused : List ℕ → List ℕ → Table → ℕ → ℕ → ℕ → ℕ → Type 0
+ValueRefused file index t i k n p = NoRow t i n p ⊎ (NoColumn t i k n p ⊎ (RowBad file index t i k n p ⊎ NoTriplet file index t i k n p))

@@ -11,7 +11,9 @@ ghost use Rattle.header.specs.Judge.{mostColumns};
 ghost use Rattle.header.specs.Layouts.{blankColumn};
 ghost use Rattle.field.specs.Nulls.{shortHalf, integerHalf, signed};
 ghost use Rattle.opening.specs.Opening.{mostRows};
-ghost use Rattle.table.specs.Rows.{columnsOf, noSuch, noSuchColumn, outside, columnAt, boundOf, plainEnd, starEnd, tripletEnd, fieldEnd, walked, slotsFor, keptFor, foundOf, idJudged, usedUp, columnPlace, offsetPlace, fieldsRefusal, placeRefusal, rowRefusal, unlessRefused, rowOf};
+ghost use Rattle.table.specs.Rows.{columnsOf, noSuch, noSuchColumn, outside, columnAt, boundOf, plainEnd, starEnd, tripletEnd, fieldEnd};
+ghost use Rattle.table.specs.Rows.{walked, slotsFor, keptFor, foundOf, idJudged, usedUp, columnPlace, offsetPlace};
+ghost use Rattle.table.specs.Rows.{fieldsRefusal, placeRefusal, rowRefusal, unlessRefused, rowOf};
 ghost use Rattle.table.specs.Plans.{fixedBound, entryEnd, walkedBound};
 ghost use Rattle.table.specs.Values.{shortOf, integerOf, floatOf, doubleOf, elementsStart, elementsBytes, tripletOfRead, shown, inRow, valueOf, spanOf, partOf};
 
@@ -214,6 +216,13 @@ pub fn no_such_column(layout: Layout, column: usize) -> bool
     no_such(count_columns(layout), column)
 }
 
+// Whether a table of so many rows has no row of this number: rows past the millionth are not there.
+pub fn no_such_row(rows: usize, row: usize) -> bool
+    ensures { λ r. ⌜ r ≡ noSuch (min rows mostRows) row ⌝ }
+{
+    no_such(lesser(rows, MOST_ROWS), row)
+}
+
 // The slots that ask for the id column and for one other, or for that one alone.
 fn slots_for(id: usize, column: usize) -> [u8; 64]
     requires { ⌜ (0 < id) × (id ≤ mostColumns) × (0 < column) × (column ≤ mostColumns) ⌝ }
@@ -402,7 +411,7 @@ fn bound_of(index: &[u8], layout: Layout, k: usize) -> usize
 pub fn read_row(file: &[u8], index: &[u8], table: Table, row: usize) -> Row
     ensures { λ r. ⌜ r ≡ rowOf (now (file .entry)) (now (index .entry)) table row ⌝ }
 {
-    if no_such(lesser(table.rows, MOST_ROWS), row) {
+    if no_such_row(table.rows, row) {
         return Row::Refused(refusal::refuse(NO_SUCH, row));
     }
     let layout = table.layout;
@@ -557,7 +566,7 @@ fn value_between(file: &[u8], layout: Layout, start: usize, end: usize, row: usi
 pub fn read_value(file: &[u8], index: &[u8], table: Table, row: usize, column: usize) -> Value
     ensures { λ r. ⌜ r ≡ valueOf (now (file .entry)) (now (index .entry)) table row column ⌝ }
 {
-    if no_such(lesser(table.rows, MOST_ROWS), row) {
+    if no_such_row(table.rows, row) {
         return Value::Refused(refusal::refuse(NO_SUCH, row));
     }
     let layout = table.layout;

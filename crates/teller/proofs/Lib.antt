@@ -1,1 +1,1 @@
-pub mod TellerLaws
+pub mod TextLaws

@@ -1,61 +1,29 @@
-// Writes to standard output what document 01 says of a tile: the counts, each ring with its steps and the steps of all, or the refusal
-// with its file, number and place. What decides, and every line's bytes, stand in the libraries below. A contract says what is answered;
-// none can say what a program writes.
-use directory::Named;
+// What the program writes of a directory, as bytes in a lent array: document 01's lines for the tile that its files say, or the refusal with
+// its file, number and place. The columns, the owner marks and the side list are its own, so that nothing else is left changed.
 use directory::Outcome;
-use libc::STDOUT_FILENO;
 use load::Counts;
-use report::Sizes;
 use report::LINE_ROOM;
 use report::MOST_ROWS;
+use report::Sizes;
 use tile::Walked;
 ghost use mathlib.Core.Path.{_≡_};
-ghost use Prim.Native.Nat.{_*_, _≤_};
-ghost use lib.ListN.{length, replicate};
-ghost use Rattle.load.specs.Load.{lengthsOf};
-ghost use Rattle.report.specs.Files.{mostRows, showsTriplet};
-ghost use Rattle.directory.specs.Outcome.{filesRead, held, outcomeOf, stepsOf, allSteps};
+ghost use Prim.Native.Nat.{_+_, _*_, _≤_};
+ghost use lib.ListN.{length};
+ghost use lib.Seq.{sets};
+ghost use Rattle.report.specs.Files.{mostRows};
+ghost use Rattle.report.specs.Lines.{lineRoom, ringLine, stepsLine, withFront};
+ghost use Rattle.directory.specs.declared.Outcome.the-variants.{Accepted};
+ghost use Rattle.directory.specs.Columns.{columns, held};
+ghost use Rattle.directory.specs.Files.{directory};
+ghost use Rattle.tile.specs.Walk.{stepsOf};
+ghost use Rattle.directory.specs.Outcome.{checkedOf};
+ghost use Rattle.teller.specs.Text.{mostSides, mostText, acceptedText, loadedText, textOf};
+
+// Room for every text, also of tables of 2,000 rows: 62,062 bytes.
+pub const MOST_TEXT: usize = 65536;
 
 // Two sides to an edge.
 const MOST_SIDES: usize = 2000;
-
-// The first n bytes, or as many as there are.
-fn front<'a>(bytes: &'a [u8], n: usize) -> &'a [u8] {
-    if bytes.len() < n {
-        return bytes;
-    }
-    &bytes[0..n]
-}
-
-// A line of so many bytes.
-fn say_line(line: &[u8; LINE_ROOM], n: usize) {
-    io::write_all(STDOUT_FILENO, front(line, n));
-}
-
-fn say_refused(named: Named) {
-    let mut line = [0u8; LINE_ROOM];
-    let file = named.file;
-    let n = report::refuse_line(file, named.refusal, &mut line);
-    say_line(&line, n);
-}
-
-fn say_counts(counts: Counts) {
-    let mut line = [0u8; LINE_ROOM];
-    let n = report::accept_line(counts, &mut line);
-    say_line(&line, n);
-}
-
-fn say_ring(row: usize, face: u32, steps: usize) {
-    let mut line = [0u8; LINE_ROOM];
-    let n = report::ring_line(row, face, steps, &mut line);
-    say_line(&line, n);
-}
-
-fn say_steps(all: usize) {
-    let mut line = [0u8; LINE_ROOM];
-    let n = report::steps_line(all, &mut line);
-    say_line(&line, n);
-}
 
 // The steps of a walk. In an accepted tile every walk has them.
 fn steps_of(walked: Walked) -> usize
@@ -67,8 +35,26 @@ fn steps_of(walked: Walked) -> usize
     }
 }
 
-// The rings of a loaded tile, row after row: the steps of all.
-fn say_rings(
+// A ring's line, written at a place of the text; the place after it.
+fn add_ring(text: &mut [u8], at: usize, row: usize, face: u32, steps: usize) -> usize
+    requires { ⌜ at + lineRoom ≤ length (now text) ⌝ }
+    ensures { λ r. ⌜ r ≡ at + length (ringLine row face steps) ⌝ }
+    ensures { λ _. ⌜ now (text .exit) ≡ sets (now (text .entry)) at (ringLine row face steps) ⌝ }
+{
+    at + report::ring_line(row, face, steps, &mut text[at..])
+}
+
+// The last line, written at a place of the text; the place after it.
+fn add_steps(text: &mut [u8], at: usize, all: usize) -> usize
+    requires { ⌜ at + lineRoom ≤ length (now text) ⌝ }
+    ensures { λ r. ⌜ r ≡ at + length (stepsLine all) ⌝ }
+    ensures { λ _. ⌜ now (text .exit) ≡ sets (now (text .entry)) at (stepsLine all) ⌝ }
+{
+    at + report::steps_line(all, &mut text[at..])
+}
+
+// The lines of an accepted tile: its counts, its rings row after row, and the steps of all.
+fn tell_rings(
     counts: Counts,
     start_node: &[u32; MOST_ROWS],
     end_node: &[u32; MOST_ROWS],
@@ -80,26 +66,123 @@ fn say_rings(
     fac_id: &[u32; MOST_ROWS],
     start_edge: &[u32; MOST_ROWS],
     first_edge: &[u32; MOST_ROWS],
+    text: &mut [u8],
 ) -> usize
-    requires { ⌜ counts .rings ≤ mostRows ⌝ }
-    ensures { λ r. ⌜ r ≡ allSteps (held counts (now («start_node» .entry)) (now («end_node» .entry)) (now («right_face» .entry)) (now («left_face» .entry)) (now («right_edge» .entry)) (now («left_edge» .entry)) (now («ring_ptr» .entry)) (now («fac_id» .entry)) (now («start_edge» .entry)) (now («first_edge» .entry))) (2 * mostRows) (counts .rings) ⌝ }
+    requires { ⌜ (mostText ≤ length (now text)) × (counts .faces ≤ mostRows) × (counts .rings ≤ mostRows) ⌝ }
+    requires { ⌜ checkedOf counts
+        (columns (now «start_node») (now «end_node») (now «right_face»)
+        (now «left_face») (now «right_edge») (now «left_edge»)
+        (now «ring_ptr») (now «fac_id»)
+        (now «start_edge») (now «first_edge»))
+        mostSides ≡ Accepted counts ⌝ }
+    ensures { λ r. ⌜ r ≡ length (acceptedText counts
+        (held counts (columns (now («start_node» .entry)) (now («end_node» .entry)) (now («right_face» .entry))
+        (now («left_face» .entry)) (now («right_edge» .entry)) (now («left_edge» .entry))
+        (now («ring_ptr» .entry)) (now («fac_id» .entry))
+        (now («start_edge» .entry)) (now («first_edge» .entry))))) ⌝ }
+    ensures { λ _. ⌜ now (text .exit) ≡ withFront
+        (acceptedText counts (held counts (columns (now («start_node» .entry)) (now («end_node» .entry)) (now («right_face» .entry))
+        (now («left_face» .entry)) (now («right_edge» .entry)) (now («left_edge» .entry))
+        (now («ring_ptr» .entry)) (now («fac_id» .entry))
+        (now («start_edge» .entry)) (now («first_edge» .entry)))))
+        (now (text .entry)) ⌝ }
 {
     let mut sides = [0u32; MOST_SIDES];
     let rings = counts.rings;
+    let mut at = report::accept_line(counts, text);
     let mut all: usize = 0;
     let mut i: usize = 0;
     while i < rings {
         let row = i + 1;
-        let steps = steps_of(directory::walk_ring(counts, start_node, end_node, right_face, left_face, right_edge, left_edge, ring_ptr, fac_id, start_edge, first_edge, row, &mut sides));
-        say_ring(row, side::row(fac_id, row), steps);
+        let steps = steps_of(directory::walk_ring(
+            counts,
+            start_node,
+            end_node,
+            right_face,
+            left_face,
+            right_edge,
+            left_edge,
+            ring_ptr,
+            fac_id,
+            start_edge,
+            first_edge,
+            row,
+            &mut sides,
+        ));
+        at = add_ring(text, at, row, side::row(fac_id, row), steps);
         all = all + steps;
         i = row;
     }
-    all
+    add_steps(text, at, all)
 }
 
-// Loads the files of a directory, each with its size, and checks the tile that they say.
-fn judge(
+// What is written of a loaded tile: its lines, or the check's refusal.
+fn tell_loaded(
+    counts: Counts,
+    start_node: &[u32; MOST_ROWS],
+    end_node: &[u32; MOST_ROWS],
+    right_face: &[u32; MOST_ROWS],
+    left_face: &[u32; MOST_ROWS],
+    right_edge: &[u32; MOST_ROWS],
+    left_edge: &[u32; MOST_ROWS],
+    ring_ptr: &[u32; MOST_ROWS],
+    fac_id: &[u32; MOST_ROWS],
+    start_edge: &[u32; MOST_ROWS],
+    first_edge: &[u32; MOST_ROWS],
+    text: &mut [u8],
+) -> usize
+    requires { ⌜ mostText ≤ length (now text) ⌝ }
+    ensures { λ r. ⌜ r ≡ length (loadedText counts
+        (columns (now («start_node» .entry)) (now («end_node» .entry)) (now («right_face» .entry))
+        (now («left_face» .entry)) (now («right_edge» .entry)) (now («left_edge» .entry))
+        (now («ring_ptr» .entry)) (now («fac_id» .entry))
+        (now («start_edge» .entry)) (now («first_edge» .entry)))) ⌝ }
+    ensures { λ _. ⌜ now (text .exit) ≡ withFront
+        (loadedText counts (columns (now («start_node» .entry)) (now («end_node» .entry)) (now («right_face» .entry))
+        (now («left_face» .entry)) (now («right_edge» .entry)) (now («left_edge» .entry))
+        (now («ring_ptr» .entry)) (now («fac_id» .entry))
+        (now («start_edge» .entry)) (now («first_edge» .entry))))
+        (now (text .entry)) ⌝ }
+{
+    let mut marks = [0u32; MOST_SIDES];
+    match directory::check_loaded(
+        counts,
+        start_node,
+        end_node,
+        right_face,
+        left_face,
+        right_edge,
+        left_edge,
+        ring_ptr,
+        fac_id,
+        start_edge,
+        first_edge,
+        &mut marks,
+    ) {
+        Outcome::Accepted(_) => tell_rings(
+            counts,
+            start_node,
+            end_node,
+            right_face,
+            left_face,
+            right_edge,
+            left_edge,
+            ring_ptr,
+            fac_id,
+            start_edge,
+            first_edge,
+            text,
+        ),
+        Outcome::Refused(named) => {
+            let file = named.file;
+            report::refuse_line(file, named.refusal, text)
+        }
+    }
+}
+
+// Judges the files of a directory, each with the size that it is said to have, and leaves what is to be written at the front of the text: how
+// many bytes that is.
+pub fn tell_tile(
     sizes: Sizes,
     edg: &[u8],
     edx: &[u8],
@@ -107,29 +190,15 @@ fn judge(
     rng: &[u8],
     cnd: &[u8],
     cnx: &[u8],
-    start_node: &mut [u32],
-    end_node: &mut [u32],
-    right_face: &mut [u32],
-    left_face: &mut [u32],
-    right_edge: &mut [u32],
-    left_edge: &mut [u32],
-    ring_ptr: &mut [u32],
-    fac_id: &mut [u32],
-    start_edge: &mut [u32],
-    first_edge: &mut [u32],
-    marks: &mut [u32],
-) -> Outcome
-    ensures { λ r. ⌜ r ≡ outcomeOf sizes (showsTriplet (now (cnd .entry))) (filesRead (now (edg .entry)) (now (edx .entry)) (now (fac .entry)) (now (rng .entry)) (now (cnd .entry)) (now (cnx .entry))) (lengthsOf (now («start_node» .entry)) (now («end_node» .entry)) (now («right_face» .entry)) (now («left_face» .entry)) (now («right_edge» .entry)) (now («left_edge» .entry)) (now («ring_ptr» .entry)) (now («fac_id» .entry)) (now («start_edge» .entry)) (now («first_edge» .entry))) (length (now (marks .entry))) ⌝ }
-{
-    match directory::load_files(sizes, edg, edx, fac, rng, cnd, cnx, start_node, end_node, right_face, left_face, right_edge, left_edge, ring_ptr, fac_id, start_edge, first_edge) {
-        Outcome::Accepted(counts) => directory::check_loaded(counts, start_node, end_node, right_face, left_face, right_edge, left_edge, ring_ptr, fac_id, start_edge, first_edge, marks),
-        Outcome::Refused(named) => Outcome::Refused(named),
-    }
-}
-
-// Judges the files of a directory, each with its size, and says it; what was said is the answer.
-pub fn tell_tile(sizes: Sizes, edg: &[u8], edx: &[u8], fac: &[u8], rng: &[u8], cnd: &[u8], cnx: &[u8]) -> Outcome
-    ensures { λ r. ⌜ r ≡ outcomeOf sizes (showsTriplet (now (cnd .entry))) (filesRead (now (edg .entry)) (now (edx .entry)) (now (fac .entry)) (now (rng .entry)) (now (cnd .entry)) (now (cnx .entry))) (replicate 10 mostRows) (2 * mostRows) ⌝ }
+    text: &mut [u8; MOST_TEXT],
+) -> usize
+    ensures { λ r. ⌜ r ≡ length (textOf sizes
+        (directory (now (edg .entry)) (now (edx .entry)) (now (fac .entry)) (now (rng .entry))
+        (now (cnd .entry)) (now (cnx .entry)))) ⌝ }
+    ensures { λ _. ⌜ now (text .exit) ≡ withFront
+        (textOf sizes (directory (now (edg .entry)) (now (edx .entry)) (now (fac .entry)) (now (rng .entry))
+        (now (cnd .entry)) (now (cnx .entry))))
+        (now (text .entry)) ⌝ }
 {
     let mut start_node = [0u32; MOST_ROWS];
     let mut end_node = [0u32; MOST_ROWS];
@@ -141,14 +210,42 @@ pub fn tell_tile(sizes: Sizes, edg: &[u8], edx: &[u8], fac: &[u8], rng: &[u8], c
     let mut fac_id = [0u32; MOST_ROWS];
     let mut start_edge = [0u32; MOST_ROWS];
     let mut first_edge = [0u32; MOST_ROWS];
-    let mut marks = [0u32; MOST_SIDES];
-    let outcome = judge(sizes, edg, edx, fac, rng, cnd, cnx, &mut start_node, &mut end_node, &mut right_face, &mut left_face, &mut right_edge, &mut left_edge, &mut ring_ptr, &mut fac_id, &mut start_edge, &mut first_edge, &mut marks);
-    match outcome {
-        Outcome::Accepted(counts) => {
-            say_counts(counts);
-            say_steps(say_rings(counts, &start_node, &end_node, &right_face, &left_face, &right_edge, &left_edge, &ring_ptr, &fac_id, &start_edge, &first_edge));
+    match directory::load_files(
+        sizes,
+        edg,
+        edx,
+        fac,
+        rng,
+        cnd,
+        cnx,
+        &mut start_node,
+        &mut end_node,
+        &mut right_face,
+        &mut left_face,
+        &mut right_edge,
+        &mut left_edge,
+        &mut ring_ptr,
+        &mut fac_id,
+        &mut start_edge,
+        &mut first_edge,
+    ) {
+        Outcome::Accepted(counts) => tell_loaded(
+            counts,
+            &start_node,
+            &end_node,
+            &right_face,
+            &left_face,
+            &right_edge,
+            &left_edge,
+            &ring_ptr,
+            &fac_id,
+            &start_edge,
+            &first_edge,
+            text,
+        ),
+        Outcome::Refused(named) => {
+            let file = named.file;
+            report::refuse_line(file, named.refusal, text)
         }
-        Outcome::Refused(named) => say_refused(named),
     }
-    outcome
 }

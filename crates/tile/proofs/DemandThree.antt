@@ -12,8 +12,9 @@ use lib.ListN.{length}
 use Rattle.laws.specs.Lowest.{In, Each}
 use Rattle.laws.specs.Sums.{sum, Inj, Into}
 use Rattle.laws.specs.Orbit.{entry, iterate, firstReturn, meets, owner, firstTaken, firstUnmet}
+use Rattle.laws.specs.Buffer.{listed}
 use Rattle.laws.proofs.LowestLaws.{bool-cases, lowest-none, lowest-pos}
-use Rattle.laws.proofs.SumLaws.{sum-ext}
+use Rattle.laws.proofs.SumLaws.{sum-ext, sum-part}
 use Rattle.laws.proofs.BufferLaws.{length-listed, entry-listed}
 use Rattle.laws.proofs.MarkLaws.{entry-front}
 use Rattle.laws.proofs.OrbitLaws.{iterate-in, closes, returns-to, no-repeat, reduce, meets-of, of-meets, owner-is, sum-law}
@@ -24,15 +25,15 @@ use Rattle.side.specs.declared.Successor.the-variants.{Side}
 use Rattle.side.proofs.SuccessorExactly.{not-outside, after-side, successor-side}
 use Rattle.tile.specs.Columns.{Tile, E, R, sides, startSide}
 use Rattle.tile.specs.Check.{verdict, verdictOf, marksLeft, marksAfter}
-use Rattle.tile.specs.Walk.{moves, walkOf, sideAfter, ringSteps, ringSides}
+use Rattle.tile.specs.Walk.{moves, walkOf, sideAfter, stepsOf, allSteps, ringSteps, ringSides}
 use Rattle.tile.specs.Facts.{Facts}
-use Rattle.tile.specs.Demand.{Closed, Walks, Stands, OneRing, Demand3}
+use Rattle.tile.specs.Demand.{Closed, Walks, Stands, OneRing, OneEmptyRing, Demand3}
 use Rattle.tile.specs.declared.Verdict.the-variants.{Accepted}
 use Rattle.tile.specs.declared.Moves.the-variants.{Back}
 use Rattle.tile.specs.declared.Walked.the-variants.{Steps}
 use Rattle.tile.proofs.TestsInWords.{sizes-exactly, goes, single, Placed, start-side, start-exactly, start-placed, named-exactly, covered-exactly}
 use Rattle.tile.proofs.AcceptedExactly.{accepted, accepted-number}
-use Rattle.tile.proofs.FirstReturn.{moves-first-return}
+use Rattle.tile.proofs.WalkExactly.{counts-the-return, first-return-lowest}
 
 module _ (t : Tile) (space : ℕ) (h : Facts t space) where
   -- the successor permutes the sides
@@ -44,7 +45,9 @@ module _ (t : Tile) (space : ℕ) (h : Facts t space) where
 
   -- the walk counts its moves until the start side returns
   pub counts-return : (a : ℕ) → In (sides t) a → moves (t .edg) a ≡ Back (firstReturn (after (t .edg)) (sides t) a)
-  counts-return a i = moves-first-return (t .edg) into a once (i .0) (i .1)
+  counts-return a i =
+      let k = firstReturn (after (t .edg)) (sides t) a in
+      counts-the-return (t .edg) a k (first-return-lowest (t .edg) a (i .0) k .1 (closes (after (t .edg)) (sides t) into once a (i .0) (i .1) .pos, refl))
 
   -- along a walk the face stays
   face-stays : (k s : ℕ) → In (sides t) s → face (t .edg) (iterate (after (t .edg)) k s) ≡ face (t .edg) s
@@ -129,15 +132,19 @@ module _ (t : Tile) (space : ℕ) (h : Facts t space) where
       stands k s e =
           let S = place r i in
           let q = steps r i in
+          let len = length-listed (sideAfter t r) (ringSteps t r) in
           let w = reduce (after (t .edg)) (sides t) into once (startSide t r) (S .pos) (S .within) k in
           by-cases (decLt (w .0) (ringSteps t r))
-          (λ c. (suc (w .0), (omega arith, c), written (suc (w .0)) (omega arith, c) ∙ w .3 ∙ e))
+          (λ c. (suc (w .0), (omega arith, omega arith), written (suc (w .0)) (omega arith, c) ∙ w .3 ∙ e))
           (λ c.
           let z : w .0 ≡ ringSteps t r = omega (arith, w .2) in
-          (1, (omega arith, steps-in .0), written 1 (omega arith, steps-in .0) ∙ sym comes-back ∙ ap (λ (m : ℕ). iterate (after (t .edg)) m (startSide t r)) (sym z) ∙ w .3 ∙ e))
+          (1, (omega arith, omega (arith, steps-in .0)), written 1 (omega arith, steps-in .0) ∙ sym comes-back ∙ ap (λ (m : ℕ). iterate (after (t .edg)) m (startSide t r)) (sym z) ∙ w .3 ∙ e))
 
       stands-met : (s : ℕ) → Stands t r s → meets (after (t .edg)) (sides t) (startSide t r) s ≡ true
-      stands-met s w = let S = place r i in meets-of (after (t .edg)) (sides t) into once (startSide t r) (S .pos) (S .within) (pred (w .0)) s (sym (written (w .0) (w .1)) ∙ w .2)
+      stands-met s w =
+          let S = place r i in
+          meets-of (after (t .edg)) (sides t) into once (startSide t r) (S .pos) (S .within) (pred (w .0)) s
+          (sym (written (w .0) (rw (length-listed (sideAfter t r) (ringSteps t r)) at (w .1))) ∙ w .2)
 
     -- EVERY SIDE LIES ON EXACTLY ONE RING'S WALK, and that ring bears its face
     owned : (s : ℕ) → In (sides t) s → (marks : List ℕ) → verdict t (length marks) .number ≡ 0 → OneRing t marks s
@@ -159,9 +166,9 @@ module _ (t : Tile) (space : ℕ) (h : Facts t space) where
           marked = entry-front (owner f (sides t) (startSide t) (R t)) (sides t) marks (marksAfter t marks) (rw (eq-eqb _ 0 z)) s (j .0) (j .1);
         }
 
-    -- THE STEPS OF ALL RINGS ADD UP to 2E
-    adds-up : sum (ringSteps t) (R t) ≡ sides t
-    adds-up =
+    -- THE LISTS OF ALL RINGS ADD UP to 2E
+    lists-add-up : sum (ringSteps t) (R t) ≡ sides t
+    lists-add-up =
         sum-ext (ringSteps t) (λ r. firstReturn (after (t .edg)) (sides t) (startSide t r)) (R t) (λ r a b. steps r (a, b))
         ∙ sum-law (after (t .edg)) (sides t) into once (startSide t) (R t) starts never-twice all-met
 
@@ -180,10 +187,29 @@ module _ (t : Tile) (space : ℕ) (h : Facts t space) where
 
   walks : Each (R t) (Walks t)
   walks r i = record {
-    answers = answers r i;
-    writes = λ d. refl;
-    counted = length-listed (sideAfter t r) (ringSteps t r);
+    given-room = λ out fits.
+        let len : length (ringSides t r) ≡ ringSteps t r = length-listed (sideAfter t r) (ringSteps t r) in
+        rw (len, answers r i (length out) (omega arith)) (refl, refl);
     closed = λ some. closed some r i;
+  }
+
+  -- THE REPORTED STEPS OF ALL RINGS ADD UP to 2E, given room: they are the lists' lengths, and none of these is more than all
+  all-add-up : sum (ringSteps t) (R t) ≡ sides t
+  all-add-up =
+      by-cases (decLt 0 (E t)) lists-add-up
+      (λ l. let q : E t ≡ 0 = omega arith in rw (one-ring q) (omega (arith, no-steps q 1)))
+
+  adds-up : (room : ℕ) → sides t ≤ room → allSteps t room (R t) ≡ sides t
+  adds-up room l =
+      sum-ext (λ r. stepsOf (walkOf t r room)) (ringSteps t) (R t)
+      (λ r a b. ap stepsOf (answers r (a, b) room (omega (arith, sum-part (ringSteps t) (R t) r a b, all-add-up))))
+      ∙ all-add-up
+
+  empty : E t ≡ 0 → OneEmptyRing t
+  empty q = record {
+    one-ring = one-ring q;
+    no-sides = ap (listed (sideAfter t 1)) (no-steps q 1);
+    sum-zero = λ room. adds-up room (omega arith) ∙ omega arith;
   }
 
 -- ---- of an accepted tile: the walk counts the first return
@@ -199,8 +225,7 @@ demand3 t marks e =
     record {
       walks = walks t (length marks) h;
       sides-owned = λ s i. owned t (length marks) h (omega arith) s i marks z;
-      adds-up =
-          by-cases (decLt 0 (E t)) (λ l. adds-up t (length marks) h l)
-          (λ l. let q : E t ≡ 0 = omega arith in rw (one-ring t (length marks) h q) (omega (arith, no-steps t (length marks) h q 1)));
-      empty = λ q. (one-ring t (length marks) h q, no-steps t (length marks) h q 1);
+      adds-up = adds-up t (length marks) h;
+      lists-add-up = all-add-up t (length marks) h;
+      empty = empty t (length marks) h;
     }

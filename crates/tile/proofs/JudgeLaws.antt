@@ -25,7 +25,7 @@ use Rattle.side.specs.declared.Successor.the-variants.{Side, Wrong}
 use Rattle.side.proofs.SideLaws.{Sound, successor-sound}
 use Rattle.tile.specs.Columns.{Tile, E, F, R, N, sides, mostRows, Regular, sideWith, startSide, emptyAllowed, emptyStart}
 use Rattle.tile.specs.Check.{slicesUnequal, tooManyRows, sizesWrong, refusedSide, edgeSideRefusal, tests, verdict, verdictOf, marksLeft, marksAfter}
-use Rattle.tile.specs.Stages.{edgeTests, ringTests, ownerTests, startMissing, startOf, lacksStart, ownersPainted, ringsOf, ownersOf, afterEdges, laterTests, marksJudged}
+use Rattle.tile.specs.Serving.Stages.{edgeTests, ringTests, ownerTests, startMissing, startOf, lacksStart, ownersPainted, ringsOf, ownersOf, afterEdges, laterTests, marksJudged}
 use Rattle.tile.specs.declared.Verdict.{Verdict}
 use Rattle.tile.specs.declared.Verdict.the-variants.{Accepted, Refused}
 use Rattle.tile.proofs.TestsInWords.{sizes-exactly}

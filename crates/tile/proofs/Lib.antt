@@ -2,10 +2,12 @@ pub mod TestsInWords
 pub mod InOrder
 pub mod AcceptedExactly
 pub mod RefusedExactly
-pub mod FirstReturn
+pub mod StartExactly
+pub mod WalkExactly
 pub mod DemandThree
 pub mod NoSecondAnswer
 pub mod Examples
+pub mod RunsExactly
 pub mod RunLaws
 pub mod OwnerLaws
 pub mod JudgeLaws

@@ -27,7 +27,7 @@ use Rattle.side.specs.declared.Successor.the-variants.{Side, Wrong}
 use Rattle.side.proofs.SideLaws.{not-outside, Sound, successor-sound}
 use Rattle.tile.specs.Columns.{sideWith}
 use Rattle.tile.specs.Check.{refusedSide, edgeSideRefusal}
-use Rattle.tile.specs.Stages.{tallied, startOf, lacksStart, ownersPainted}
+use Rattle.tile.specs.Serving.Stages.{tallied, startOf, lacksStart, ownersPainted}
 
 -- a side that is not refused has a successor among the sides
 sound-goes : (n s : ℕ) (c : Successor) → Sound n c → refusedSide s c .number ≤ 0 → (0 < sideOf c) × (sideOf c ≤ n)

@@ -11,10 +11,12 @@ use borrow.Author.Tests.{eq-eqb, ne-eqb}
 use Rattle.laws.specs.Orbit.{entry}
 use Rattle.laws.specs.Sums.{Into}
 use Rattle.laws.specs.Lowest.{lowest, lesser, least}
-use Rattle.laws.proofs.LowestLaws.{lowest-zero}
+use Rattle.laws.proofs.LowestLaws.{lowest-zero, lowest-ext}
 use Rattle.laws.proofs.LeastLaws.{least-is, lowest-either}
 use Rattle.side.proofs.SideLaws.{not-outside}
-use Rattle.tile.specs.Check.{entryOutside, beginsElsewhere, pointsAway, runBroken}
+use Rattle.tile.specs.Check.{entryOutside, runBroken}
+use Rattle.tile.specs.Serving.Stages.{beginsElsewhere, pointsAway, runNotAtPointer}
+use Rattle.tile.proofs.RunsExactly.{not-at-pointer-broken}
 
 module _ (ringPtr facId : List ℕ) where
   -- the three answers at ring row i + 1
@@ -43,7 +45,10 @@ module _ (ringPtr facId : List ℕ) where
 
   -- THE LOWEST FACE with a wrong run: the lower of the two that one pass over the rings and one over the faces find
   pub runs-judged : lowest (entryOutside (length ringPtr) facId) (length facId) ≡ 0
-      → lesser (lowest (pointsAway ringPtr facId) (length ringPtr)) (least (beginsElsewhere ringPtr facId) (entry facId) (length facId)) ≡ lowest (runBroken ringPtr facId) (length ringPtr)
+      → lesser (lowest (pointsAway ringPtr facId) (length ringPtr)) (least (beginsElsewhere ringPtr facId) (entry facId) (length facId))
+      ≡ lowest (runBroken ringPtr facId) (length ringPtr)
   runs-judged e =
-      ap (lesser (lowest (pointsAway ringPtr facId) (length ringPtr))) (least-is (beginsElsewhere ringPtr facId) (entry facId) (length facId) (length ringPtr) (faces-in e))
+      ap (lesser (lowest (pointsAway ringPtr facId) (length ringPtr)))
+      (least-is (beginsElsewhere ringPtr facId) (entry facId) (length facId) (length ringPtr) (faces-in e))
       ∙ lowest-either (pointsAway ringPtr facId) (λ f. ltb 0 (lowest (λ r. eqb (entry facId r) f && beginsElsewhere ringPtr facId r) (length facId))) (length ringPtr)
+      ∙ lowest-ext (runNotAtPointer ringPtr facId) (runBroken ringPtr facId) (length ringPtr) (λ f a b. not-at-pointer-broken ringPtr facId f a)

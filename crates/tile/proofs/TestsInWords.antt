@@ -1,16 +1,15 @@
 -- Each test of the check in document 01's words: it refuses nothing exactly where the words hold at every row or side, and else
 -- its number at the lowest row or side where they fail. Assumes nothing.
-use mathlib.Core.Path.{_≡_, refl, sym, ap, _∙_}
-use mathlib.Core.Logic.{_↔_, by-cases, _⊎_, inl, inr, ⊎-elim}
-use mathlib.Core.Bool.{Bool, true, false, not, _&&_, true≢false}
+use mathlib.Core.Path.{_≡_, refl, sym, _∙_}
+use mathlib.Core.Logic.{_↔_, _⊎_, inl, inr, ⊎-elim}
+use mathlib.Core.Bool.{Bool, true, false, true≢false}
 use mathlib.Core.List.{List}
-use Prim.Native.Nat.{ℕ, zero, suc, pred, _+_, _-_, _%_, _≤_, _<_}
-use native.Mathlib.Decide.{decLe, decLt, ℕ-discrete}
+use Prim.Native.Nat.{ℕ, pred, _%_, _≤_, _<_}
 use native.Mathlib.Omega.{arith}
 use borrow.Author.Tests.{ne-eqb, eqb-true, eqb-false, le-ltb, ltb-true, ltb-false}
 use lib.Dec.{eqb, ltb}
-use lib.ListN.{length, List·getD-eq-default}
-use Rattle.laws.specs.Lowest.{lowest, At, In, Each, LowestFailing}
+use lib.ListN.{length}
+use Rattle.laws.specs.Lowest.{lowest, In, Each, LowestFailing}
 use Rattle.laws.specs.Sums.{hits, Inj, Into}
 use Rattle.laws.specs.Orbit.{entry, meets, owner, firstDoubled, firstTaken, firstUnmet}
 use Rattle.laws.proofs.TestLaws.{or-false, and-false, and-true, denied, refuted, equal, not-unequal, nonzero, not-above}
@@ -22,69 +21,14 @@ use Rattle.refusal.proofs.JudgedLaws.{Judged, judged-lowest, none-found, judged
 use Rattle.side.specs.declared.Successor.{Successor}
 use Rattle.side.specs.declared.Successor.the-variants.{Side, Wrong}
 use Rattle.side.specs.Edges.{outside, edgeOf, face}
-use Rattle.side.specs.Successor.{successor, after, Fault}
-use Rattle.side.proofs.SuccessorExactly.{not-outside, face-of-right, face-of-left, LinkIn, successor-follows, follows-successor, wrong-fault, wrong-number, successor-side, side-after}
+use Rattle.side.specs.Successor.{successor, after, LinkIn, Fault}
+use Rattle.side.proofs.SuccessorExactly.{not-outside, face-of-right, face-of-left, successor-follows, follows-successor, wrong-fault, wrong-number, successor-side, side-after}
 use Rattle.tile.specs.Columns.{Tile, E, F, R, N, sides, mostRows, startSide, emptyStart}
-use Rattle.tile.specs.Check.{slicesUnequal, tooManyRows, sizesWrong, rowOutside, nodeOutside, faceOutside, linkOutside, refusedSide, sideRefusal, firstEdgeWrong, ringFaceOutside, runElsewhere, runWrong, startWrong}
-use Rattle.tile.specs.Facts.{Sizes, NodesIn, FacesIn, LinksIn, Succeeded, OnePredecessor, NoTwoPredecessors, FirstEdgeTouches, RingFaceIn, OneRun, EmptyRing, StartsOnSide, StartRight, Reaches, NotNamedBefore, OnARing}
-
--- a row that is not 0 is a row of the list
-entry-in : (l : List ℕ) (r : ℕ) → 0 < entry l r → In (length l) r
-entry-in l zero h = absurd (omega arith)
-entry-in l (suc r) h = by-cases (decLt r (length l)) (λ c. (omega arith, omega arith)) (λ c. absurd (omega (arith, List·getD-eq-default l 0 {n = r} (omega arith))))
-
--- ---- the rows of a list that hold f are one run from row p on, where row p holds it, and no other row that holds it follows a
--- row that does not
-module _ (l : List ℕ) (f p : ℕ) (pos : 0 < f) where
-  abbrev Steady : ℕ → Type 0
-  Steady r = entry l r ≡ f → (entry l (pred r) ≡ f) ⊎ (p ≡ r)
-
-  -- from a row that holds f down to row q, while none above q is p
-  down : Each (length l) Steady → (r : ℕ) → r ≤ length l → entry l r ≡ f → (q : ℕ) → q ≤ r → ((i : ℕ) → q < i → i ≤ r → p ≡ i → ⊥) → entry l q ≡ f
-  down st zero a e q b none = let z : q ≡ 0 = omega arith in rw z e
-  down st (suc r) a e q b none =
-      by-cases (decLe q r)
-      (λ c.
-      ⊎-elim
-      (λ h. down st r (omega arith) h q c (λ i u v. none i u (omega arith)))
-      (λ h. absurd (none (suc r) (omega arith) (omega arith) h))
-      (st (suc r) (omega arith, a) e))
-      (λ c. let z : q ≡ suc r = omega arith in rw z e)
-
-  -- the rows of the run: up to the first after p that holds another number, the one past the end at the latest
-  abbrev other : ℕ → Bool
-  other j = not (eqb (entry l (p + j)) f)
-
-  abbrev run : ℕ
-  run = lowest other (suc (length l) - p)
-
-  module _ (h : entry l p ≡ f) (st : Each (length l) Steady) where
-    begins : In (length l) p
-    begins = entry-in l p (rw h pos)
-
-    run-at : At other (suc (length l) - p) run
-    run-at =
-        let b = begins in
-        let n = suc (length l) - p in
-        let q : p + n ≡ suc (length l) = omega arith in
-        let z : entry l (p + n) ≡ 0 = ap (entry l) q ∙ List·getD-eq-default l 0 {n = length l} (omega arith) in
-        lowest-pos other n (lowest-some other n n (omega arith) (omega arith) (rw (z, ne-eqb 0 f (λ e. omega arith))))
-
-    run-inside : (r : ℕ) → p ≤ r → r < p + run → entry l r ≡ f
-    run-inside r a b =
-        by-cases (ℕ-discrete p r) (λ e. ap (entry l) (sym e) ∙ h)
-        (λ e.
-        let q : r ≡ p + (r - p) = omega arith in
-        ap (entry l) q ∙ not-unequal (entry l (p + (r - p))) f .0 (run-at .below (r - p) (omega arith) (omega arith)))
-
-    run-only : (r : ℕ) → In (length l) r → entry l r ≡ f → (p ≤ r) × (r < p + run)
-    run-only r i e = (
-      by-cases (decLe p r) (λ c. c) (λ c. absurd (omega (arith, down st r (i .1) e 0 (omega arith) (λ i u v z. omega arith)))),
-      by-cases (decLt r (p + run)) (λ c. c)
-          (λ c.
-          let d = down st r (i .1) e (p + run) (omega arith) (λ i u v z. omega arith) in
-          absurd (true≢false (sym (run-at .passes) ∙ not-unequal (entry l (p + run)) f .1 d))),
-    )
+use Rattle.tile.specs.Check.{slicesUnequal, tooManyRows, sizesWrong, rowOutside, nodeOutside, faceOutside, linkOutside}
+use Rattle.tile.specs.Check.{refusedSide, sideRefusal, firstEdgeWrong, ringFaceOutside, runWrong, startWrong}
+use Rattle.tile.proofs.RunsExactly.{broken-exactly}
+use Rattle.tile.specs.Facts.{Sizes, NodesIn, FacesIn, LinksIn, Succeeded, OnePredecessor, NoTwoPredecessors, FirstEdgeTouches}
+use Rattle.tile.specs.Facts.{RingFaceIn, OneRun, EmptyRing, StartsOnSide, StartRight, Reaches, NotNamedBefore, OnARing}
 
 module _ (t : Tile) where
   -- ---- 15
@@ -215,7 +159,8 @@ module _ (t : Tile) where
   -- ---- 27
   first-edge-exactly : (n : ℕ) → (firstEdgeWrong t n ≡ false) ↔ FirstEdgeTouches t n
   first-edge-exactly n =
-      let w = or-false _ _ (not-outside (E t) (entry (t .firstEdge) n)) (and-false _ _ (not-unequal (entry (t .edg .startNode) (entry (t .firstEdge) n)) n) (not-unequal (entry (t .edg .endNode) (entry (t .firstEdge) n)) n)) in
+      let e = entry (t .firstEdge) n in
+      let w = or-false _ _ (not-outside (E t) e) (and-false _ _ (not-unequal (entry (t .edg .startNode) e) n) (not-unequal (entry (t .edg .endNode) e) n)) in
       (λ e. let h = w .0 e in record { within = h .0; touches = h .1 }, λ h. w .1 (h .within, h .touches))
 
   pub judged-first-edges : Judged (located 27 (lowest (firstEdgeWrong t) (N t))) (Each (N t) (FirstEdgeTouches t)) (λ n p. (n ≡ 27) × LowestFailing (N t) (FirstEdgeTouches t) p)
@@ -225,39 +170,8 @@ module _ (t : Tile) where
   pub judged-ring-faces : Judged (located 28 (lowest (ringFaceOutside t) (R t))) (Each (R t) (RingFaceIn t)) (λ n p. (n ≡ 28) × LowestFailing (R t) (RingFaceIn t) p)
   judged-ring-faces = judged-lowest (RingFaceIn t) (R t) 28 (λ e. omega arith) (ringFaceOutside t) (λ r i. not-outside (F t) (entry (t .facId) r))
 
-  steady-exactly : (f r : ℕ) → (eqb (entry (t .facId) r) f && runElsewhere t r ≡ false) ↔ (entry (t .facId) r ≡ f → (entry (t .facId) (pred r) ≡ f) ⊎ (entry (t .ringPtr) f ≡ r))
-  steady-exactly f r =
-      bool-cases (eqb (entry (t .facId) r) f)
-      (λ c.
-      let q = eqb-true (entry (t .facId) r) f c in
-      let w = and-false _ _ (not-unequal (entry (t .facId) (pred r)) f) (not-unequal (entry (t .ringPtr) f) r) in
-      rw (c, q) (λ e h. w .0 e, λ h. w .1 (h refl)))
-      (λ c. rw c (λ e h. absurd (eqb-false (entry (t .facId) r) f c h), λ h. refl))
-
   run-exactly : (f : ℕ) → In (F t) f → (runWrong t f ≡ false) ↔ OneRun t f
-  run-exactly f i =
-      let p = entry (t .ringPtr) f in
-      let w = or-false _ _ (not-unequal (entry (t .facId) p) f) (none-found (Steady (t .facId) f p (i .0)) (R t) (λ r. eqb (entry (t .facId) r) f && runElsewhere t r) (λ r j. steady-exactly f r)) in (
-        λ e.
-            let h = w .0 e in
-            let b = begins (t .facId) f p (i .0) (h .0) (h .1) in
-            let A = run-at (t .facId) f p (i .0) (h .0) (h .1) in
-            record {
-              rows = run (t .facId) f p (i .0);
-              some = A .pos;
-              starts = b .0;
-              ends = omega (arith, A .within);
-              inside = run-inside (t .facId) f p (i .0) (h .0) (h .1);
-              nowhere-else = run-only (t .facId) f p (i .0) (h .0) (h .1);
-            },
-        λ h.
-            w .1 (
-              h .inside p (omega arith) (omega (arith, h .some)),
-              λ r j e.
-                  let b = h .nowhere-else r j e in
-                  by-cases (ℕ-discrete p r) inr (λ c. inl (h .inside (pred r) (omega arith) (omega arith))),
-            ),
-      )
+  run-exactly f i = broken-exactly (t .facId) f (entry (t .ringPtr) f) (i .0)
 
   pub judged-runs : Judged (located 28 (lowest (runWrong t) (F t))) (Each (F t) (OneRun t)) (λ n p. (n ≡ 28) × LowestFailing (F t) (OneRun t) p)
   judged-runs = judged-lowest (OneRun t) (F t) 28 (λ e. omega arith) (runWrong t) run-exactly

@@ -17,7 +17,7 @@ use Rattle.refusal.specs.Order.{refusal}
 use Rattle.tile.proofs.SuccessorLaws.{nowhere-to-go}
 use Rattle.tile.specs.Columns.{Tile, E, F, R, sideWith, startSide, emptyStart}
 use Rattle.tile.specs.Check.{sizesWrong, startWrong}
-use Rattle.tile.specs.Stages.{startMissing, pathWritten}
+use Rattle.tile.specs.Serving.Stages.{startMissing, pathWritten}
 use Rattle.tile.specs.Walk.{stuckAt, onMove, movesFrom, moves, walked, walkOf, sidesWritten}
 use Rattle.tile.specs.declared.Walked.{Walked}
 use Rattle.tile.specs.declared.Walked.the-variants.{Steps, Refused}

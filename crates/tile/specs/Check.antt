@@ -1,10 +1,11 @@
 -- "Accepted when all of these hold, tested in order, lowest row or side first": the tests, and the answer.
-use mathlib.Core.Bool.{Bool, true, false, cond, not, _&&_, _||_}
+use mathlib.Core.Bool.{Bool, cond, not, _&&_, _||_}
 use mathlib.Core.List.{List, [], _∷_}
-use Prim.Native.Nat.{ℕ, pred, _*_}
+use Prim.Native.Nat.{ℕ, pred, _+_}
 use lib.Dec.{eqb, ltb}
 use lib.ListN.{length}
 use Rattle.laws.specs.Lowest.{lowest}
+use Rattle.laws.specs.Sums.{hits}
 use Rattle.laws.specs.Orbit.{entry, firstTaken, firstUnmet, firstDoubled}
 use Rattle.laws.specs.Buffer.{front}
 use Rattle.laws.specs.Marks.{zeros, ownerAt}
@@ -70,20 +71,18 @@ entryOutside most a r = outside most (entry a r)
 abbrev pub ringFaceOutside : Tile → ℕ → Bool
 ringFaceOutside t = entryOutside (F t) (t .facId)
 
--- ring row r begins a run of rows of one face, and the face's ring_ptr names another row
-abbrev pub beginsElsewhere : List ℕ → List ℕ → ℕ → Bool
-beginsElsewhere ringPtr facId r = not (eqb (entry facId (pred r)) (entry facId r)) && not (eqb (entry ringPtr (entry facId r)) r)
+-- 28: "for each face its ring rows": how many ring rows have the face f
+abbrev pub ringRows : List ℕ → ℕ → ℕ
+ringRows facId f = hits (entry facId) (length facId) f
 
-abbrev pub runElsewhere : Tile → ℕ → Bool
-runElsewhere t = beginsElsewhere (t .ringPtr) (t .facId)
+-- one of the n rows from row p on does not have the face f
+abbrev pub rowsBroken : List ℕ → ℕ → ℕ → ℕ → Bool
+rowsBroken facId f p n = ltb 0 (lowest (λ j. not (eqb (entry facId (p + pred j)) f)) n)
 
--- 28: "its ring rows being exactly one unbroken run that starts at its ring_ptr": the row that ring_ptr names is the face's,
--- and no run of the face begins elsewhere
-abbrev pub pointsAway : List ℕ → List ℕ → ℕ → Bool
-pointsAway ringPtr facId f = not (eqb (entry facId (entry ringPtr f)) f)
-
+-- 28: ".. being exactly one unbroken run that starts at its ring_ptr" fails: the face has no ring row, or as many rows from its
+-- ring_ptr on are not all its own; no row is at 0 or past the end, so a ring_ptr that names none fails too
 abbrev pub runBroken : List ℕ → List ℕ → ℕ → Bool
-runBroken ringPtr facId f = pointsAway ringPtr facId f || ltb 0 (lowest (λ r. eqb (entry facId r) f && beginsElsewhere ringPtr facId r) (length facId))
+runBroken ringPtr facId f = eqb (ringRows facId f) 0 || rowsBroken facId f (entry ringPtr f) (ringRows facId f)
 
 abbrev pub runWrong : Tile → ℕ → Bool
 runWrong t = runBroken (t .ringPtr) (t .facId)

@@ -1,11 +1,12 @@
 -- The listed facts about nodes, faces, edges and rings, in the paper's words; and what each refusal says.
 use mathlib.Core.Path.{_≡_}
 use mathlib.Core.Logic.{_⊎_}
+use mathlib.Core.List.{List}
 use Prim.Native.Nat.{ℕ, suc, _+_, _≤_, _<_}
 use lib.ListN.{length}
 use Rattle.laws.specs.Lowest.{In, Each, LowestFailing}
 use Rattle.laws.specs.Orbit.{entry, iterate}
-use Rattle.side.specs.Edges.{right, left, face}
+use Rattle.side.specs.Edges.{right, left, edgeOf, face}
 use Rattle.side.specs.Successor.{Follows, Fault, after}
 use Rattle.tile.specs.Columns.{Tile, E, F, R, N, sides, mostRows, startSide}
 
@@ -55,14 +56,18 @@ pub record FirstEdgeTouches (t : Tile) (n : ℕ) : Type 0 where
 abbrev pub RingFaceIn : Tile → ℕ → Type 0
 RingFaceIn t r = In (F t) (entry (t .facId) r)
 
--- "for each face its ring rows being exactly one unbroken run that starts at its ring_ptr (28)"
-pub record OneRun (t : Tile) (f : ℕ) : Type 0 where
+-- "exactly one unbroken run that starts at" row p: the rows of a column that hold f
+pub record OneRunFrom (facId : List ℕ) (f p : ℕ) : Type 0 where
   pub rows : ℕ
   pub some : 0 < rows
-  pub starts : 0 < entry (t .ringPtr) f
-  pub ends : entry (t .ringPtr) f + rows ≤ suc (R t)
-  pub inside : (r : ℕ) → entry (t .ringPtr) f ≤ r → r < entry (t .ringPtr) f + rows → entry (t .facId) r ≡ f
-  pub nowhere-else : (r : ℕ) → In (R t) r → entry (t .facId) r ≡ f → (entry (t .ringPtr) f ≤ r) × (r < entry (t .ringPtr) f + rows)
+  pub starts : 0 < p
+  pub ends : p + rows ≤ suc (length facId)
+  pub inside : (r : ℕ) → p ≤ r → r < p + rows → entry facId r ≡ f
+  pub nowhere-else : (r : ℕ) → In (length facId) r → entry facId r ≡ f → (p ≤ r) × (r < p + rows)
+
+-- "for each face its ring rows being exactly one unbroken run that starts at its ring_ptr (28)"
+abbrev pub OneRun : Tile → ℕ → Type 0
+OneRun t f = OneRunFrom (t .facId) f (entry (t .ringPtr) f)
 
 -- "every start (29)": the allowed 0, or an edge of which a side has the ring's face
 pub record EmptyRing (t : Tile) (r : ℕ) : Type 0 where
@@ -74,6 +79,13 @@ pub record EmptyRing (t : Tile) (r : ℕ) : Type 0 where
 pub record StartsOnSide (t : Tile) (r : ℕ) : Type 0 where
   pub within : In (E t) (entry (t .startEdge) r)
   pub bears : (face (t .edg) (right (entry (t .startEdge) r)) ≡ entry (t .facId) r) ⊎ (face (t .edg) (left (entry (t .startEdge) r)) ≡ entry (t .facId) r)
+
+-- "The start side is the one with the ring's face; if both have it, the right one.": s is the start side of ring row r
+pub record StartSideIs (t : Tile) (r s : ℕ) : Type 0 where
+  pub within : In (E t) (entry (t .startEdge) r)
+  pub of-edge : edgeOf s ≡ entry (t .startEdge) r
+  pub bears : face (t .edg) s ≡ entry (t .facId) r
+  pub right-one : face (t .edg) (right (entry (t .startEdge) r)) ≡ entry (t .facId) r → s ≡ right (entry (t .startEdge) r)
 
 abbrev pub StartRight : Tile → ℕ → Type 0
 StartRight t r = EmptyRing t r ⊎ StartsOnSide t r

@@ -1,6 +1,7 @@
 pub mod Columns
 pub mod Check
-pub mod Stages
 pub mod Walk
+pub mod WalkWords
 pub mod Facts
 pub mod Demand
+pub mod Serving

@@ -3,7 +3,7 @@ use mathlib.Core.Bool.{cond}
 use mathlib.Core.List.{List}
 use Prim.Native.Nat.{ℕ, zero, suc}
 use lib.Dec.{eqb, ltb}
-use lib.ListN.{length}
+use Rattle.laws.specs.Sums.{sum}
 use Rattle.laws.specs.Orbit.{iterate, firstReturn}
 use Rattle.laws.specs.Buffer.{listed, front}
 use Rattle.refusal.specs.declared.Refusal.{Refusal}
@@ -59,6 +59,15 @@ sideAfter t r i = iterate (after (t .edg)) i (startSide t r)
 abbrev pub sidesWritten : Tile → ℕ → Walked → List ℕ → List ℕ
 sidesWritten t r (Steps k) d = front (sideAfter t r) k d
 sidesWritten t r (Refused q) d = d
+
+-- the reported steps of a walk, its answer: none of one that is refused
+abbrev pub stepsOf : Walked → ℕ
+stepsOf (Steps k) = k
+stepsOf (Refused q) = 0
+
+-- "The reported steps of all rings": of the ring rows 1..n together, each walked into an output of so much space
+abbrev pub allSteps : Tile → ℕ → ℕ → ℕ
+allSteps t space n = sum (λ r. stepsOf (walkOf t r space)) n
 
 -- the steps of ring row r and the list of its sides, start side first
 abbrev pub ringSteps : Tile → ℕ → ℕ

@@ -14,7 +14,7 @@ ghost use Rattle.laws.specs.Marks.{zeros};
 ghost use Rattle.refusal.specs.Order.{located, firstOf};
 ghost use Rattle.side.specs.Edges.{Edges, edges, edgeCount, sideCount, outside};
 ghost use Rattle.tile.specs.Columns.{Regular};
-ghost use Rattle.tile.specs.Stages.{edgeTests, tallied};
+ghost use Rattle.tile.specs.Serving.Stages.{edgeTests, tallied};
 ghost use Rattle.tile.specs.Check.{rowOutside, entryOutside, edgeAway, edgeSideRefusal};
 
 // Whether x is none of 1..most.

@@ -16,7 +16,7 @@ ghost use Rattle.refusal.specs.Order.{firstOf};
 ghost use Rattle.side.specs.Edges.{edges};
 ghost use Rattle.tile.specs.Columns.{tile};
 ghost use Rattle.tile.specs.Check.{sizesWrong, verdictOf, marksAfter};
-ghost use Rattle.tile.specs.Stages.{laterTests, marksJudged};
+ghost use Rattle.tile.specs.Serving.Stages.{laterTests, marksJudged};
 ghost use Rattle.tile.specs.Walk.{walkOf, sidesWritten};
 
 pub enum Verdict {

@@ -16,7 +16,7 @@ ghost use Rattle.side.specs.Edges.{edges, sideCount};
 ghost use Rattle.side.specs.Successor.{after};
 ghost use Rattle.tile.specs.Columns.{mostRows, Regular};
 ghost use Rattle.tile.specs.Check.{edgeSideRefusal};
-ghost use Rattle.tile.specs.Stages.{tallied, startOf, lacksStart, ownerTests, ownersPainted};
+ghost use Rattle.tile.specs.Serving.Stages.{tallied, startOf, lacksStart, ownerTests, ownersPainted};
 
 // Sets the first n marks to zero.
 pub(crate) fn clear(marks: &mut [u32], n: usize)

@@ -14,7 +14,7 @@ ghost use Rattle.side.specs.Successor.{successor, after};
 ghost use Rattle.tile.specs.declared.Moves.the-variants.{Open};
 ghost use Rattle.tile.specs.Columns.{Regular};
 ghost use Rattle.tile.specs.Walk.{stuckAt, onMove, moves, walked};
-ghost use Rattle.tile.specs.Stages.{pathWritten};
+ghost use Rattle.tile.specs.Serving.Stages.{pathWritten};
 
 // A move that cannot be made: 22 has the edge row as place, 23 to 25 the side.
 fn stuck_at(number: u32, s: usize) -> Refusal

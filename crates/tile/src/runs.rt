@@ -6,7 +6,8 @@ ghost use Prim.Native.Nat.{suc, _<_};
 ghost use lib.ListN.{length};
 ghost use Rattle.laws.specs.Orbit.{entry};
 ghost use Rattle.laws.specs.Lowest.{lowest, lesser, least};
-ghost use Rattle.tile.specs.Check.{entryOutside, beginsElsewhere, pointsAway, runBroken};
+ghost use Rattle.tile.specs.Check.{entryOutside, runBroken};
+ghost use Rattle.tile.specs.Serving.Stages.{beginsElsewhere, pointsAway};
 
 // The smaller of two, where 0 is none.
 fn lesser_of(a: usize, b: usize) -> usize

@@ -9,7 +9,7 @@ ghost use Rattle.laws.specs.Orbit.{entry};
 ghost use Rattle.laws.specs.Lowest.{lowest};
 ghost use Rattle.refusal.specs.Order.{firstOf};
 ghost use Rattle.tile.specs.Columns.{sideWith, emptyAllowed};
-ghost use Rattle.tile.specs.Stages.{startMissing, ringTests};
+ghost use Rattle.tile.specs.Serving.Stages.{startMissing, ringTests};
 
 // The side of the edge e with the face, the right one if both have it; 0 where e is no edge or neither has it.
 pub(crate) fn side_with(

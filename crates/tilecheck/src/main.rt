@@ -1,52 +1,136 @@
 // Reads the tile of the directory that it is run in, and writes what document 01 says of it.
-use report::Sizes;
+use libc::EINTR;
+use libc::STDOUT_FILENO;
 use report::MOST_BYTES;
+use report::Sizes;
+use teller::MOST_TEXT;
+ghost use Prim.Native.Nat.{_≤_, _+_, _-_};
+ghost use lib.ListN.{length};
+ghost use Rattle.tilecheck.specs.Reading.{Within};
 
-// Reads a file into the buffer: how many bytes it has, or more than the buffer holds where it has more. One that cannot be read
-// counts as empty.
-fn read_file(path: &[u8], buf: &mut [u8]) -> usize {
+// How many interrupted reads of a file are tried again.
+const MOST_TRIES: usize = 100;
+
+// What a read gives: so many bytes, none at the file's end; or a signal came before the first; or it failed.
+enum Part {
+    Bytes(usize),
+    Interrupted,
+    Failed,
+}
+
+// One read of a file, to the bytes of the buffer from a place on.
+fn read_part(fd: i32, buf: &mut [u8], at: usize) -> Part
+    requires { ⌜ at ≤ length (now buf) ⌝ }
+    ensures { λ r. ⌜ Within r (length (now (buf .entry)) - at) ⌝ }
+{
+    let got = libc::read(fd, &mut buf[at..]);
+    if got >= 0 {
+        return Part::Bytes(io::count(got, &buf[at..]));
+    }
+    if os::errno() == EINTR {
+        return Part::Interrupted;
+    }
+    Part::Failed
+}
+
+// Reads an open file to its end, or until the buffer is full: how many bytes, or that it cannot be read, whatever came before a read that
+// fails.
+fn read_whole(fd: i32, buf: &mut [u8]) -> Part
+    ensures { λ r. ⌜ Within r (length (now (buf .entry))) ⌝ }
+{
+    let mut at = 0;
+    let mut tries = MOST_TRIES;
+    while at < buf.len() {
+        match read_part(fd, buf, at) {
+            Part::Bytes(n) => {
+                if n == 0 {
+                    return Part::Bytes(at);
+                }
+                at += n;
+            }
+            Part::Interrupted => {
+                if tries == 0 {
+                    return Part::Failed;
+                }
+                tries -= 1;
+            }
+            Part::Failed => return Part::Failed,
+        }
+    }
+    Part::Bytes(at)
+}
+
+// Reads an open file into the buffer: how many bytes it has, or one more than the buffer holds where it has more. One that cannot be read
+// has none.
+fn read_open(fd: i32, buf: &mut [u8]) -> usize
+    ensures { λ r. ⌜ r ≤ length (now (buf .entry)) + 1 ⌝ }
+{
+    let Part::Bytes(n) = read_whole(fd, buf) else {
+        return 0;
+    };
+    if n < buf.len() {
+        return n;
+    }
+    let mut beyond = [0u8; 1];
+    let Part::Bytes(more) = read_whole(fd, &mut beyond) else {
+        return 0;
+    };
+    n + more
+}
+
+// "A file that cannot be read counts as empty."
+fn read_file(path: &[u8], buf: &mut [u8]) -> usize
+    ensures { λ r. ⌜ r ≤ length (now (buf .entry)) + 1 ⌝ }
+{
     let fd = os::open_read(path);
     if fd < 0 {
         return 0;
     }
-    let n = io::read_full(fd, buf);
-    let mut beyond = [0u8; 1];
-    let more = io::read_full(fd, &mut beyond);
+    let n = read_open(fd, buf);
     libc::close(fd);
-    if more == 0 {
-        return n;
-    }
-    buf.len() + 1
-}
-
-// The first n bytes, or as many as there are.
-fn front<'a>(bytes: &'a [u8], n: usize) -> &'a [u8] {
-    if bytes.len() < n {
-        return bytes;
-    }
-    &bytes[0..n]
+    n
 }
 
 // What was read of a file of this size.
-fn lent<'a>(buf: &'a [u8; MOST_BYTES], size: usize) -> &'a [u8] {
-    front(buf, size)
+fn lent<'a>(buf: &'a [u8], size: usize) -> &'a [u8] {
+    if buf.len() < size {
+        return buf;
+    }
+    &buf[0..size]
 }
 
-// "cnx if K occurs": its size, where it is read.
-fn read_node_index(cnd: &[u8], buf: &mut [u8]) -> usize {
+// "cnx if K occurs": it is read only beside a cnd that shows K.
+fn read_node_index(cnd: &[u8], buf: &mut [u8]) -> usize
+    ensures { λ r. ⌜ r ≤ length (now (buf .entry)) + 1 ⌝ }
+{
     if report::shows_triplet(cnd) {
         return read_file(b"cnx", buf);
     }
     0
 }
 
+// Writes the text of the six files, each with its size.
+fn write_text(
+    sizes: Sizes,
+    edg: &[u8],
+    edx: &[u8],
+    fac: &[u8],
+    rng: &[u8],
+    cnd: &[u8],
+    cnx: &[u8],
+) {
+    let mut text = [0u8; MOST_TEXT];
+    let n = teller::tell_tile(sizes, edg, edx, fac, rng, cnd, cnx, &mut text);
+    io::write_all(STDOUT_FILENO, &text[0..n]);
+}
+
 fn main() {
-    let mut edg = io::large_buffer();
-    let mut edx = io::large_buffer();
-    let mut fac = io::large_buffer();
-    let mut rng = io::large_buffer();
-    let mut cnd = io::large_buffer();
-    let mut cnx = io::large_buffer();
+    let mut edg = [0u8; MOST_BYTES];
+    let mut edx = [0u8; MOST_BYTES];
+    let mut fac = [0u8; MOST_BYTES];
+    let mut rng = [0u8; MOST_BYTES];
+    let mut cnd = [0u8; MOST_BYTES];
+    let mut cnx = [0u8; MOST_BYTES];
     let of_edg = read_file(b"edg", &mut edg);
     let of_edx = read_file(b"edx", &mut edx);
     let of_fac = read_file(b"fac", &mut fac);
@@ -54,6 +138,21 @@ fn main() {
     let of_cnd = read_file(b"cnd", &mut cnd);
     let nodes = lent(&cnd, of_cnd);
     let of_cnx = read_node_index(nodes, &mut cnx);
-    let sizes = Sizes { edg: of_edg, edx: of_edx, fac: of_fac, rng: of_rng, cnd: of_cnd, cnx: of_cnx };
-    teller::tell_tile(sizes, lent(&edg, of_edg), lent(&edx, of_edx), lent(&fac, of_fac), lent(&rng, of_rng), nodes, lent(&cnx, of_cnx));
+    let sizes = Sizes {
+        edg: of_edg,
+        edx: of_edx,
+        fac: of_fac,
+        rng: of_rng,
+        cnd: of_cnd,
+        cnx: of_cnx,
+    };
+    write_text(
+        sizes,
+        lent(&edg, of_edg),
+        lent(&edx, of_edx),
+        lent(&fac, of_fac),
+        lent(&rng, of_rng),
+        nodes,
+        lent(&cnx, of_cnx),
+    );
 }

@@ -1,14 +1,15 @@
--- Triplets in words: what it is that bytes begin with a triplet, where bytes that begin with none are bad, and when a triplet
--- is written.
+-- Triplets in words: what it is that bytes begin with a triplet, where bytes that begin with none are bad, when a triplet is
+-- written, and which refusal is given instead.
 use mathlib.Core.Path.{_≡_}
 use mathlib.Core.List.{List}
 use Prim.Native.Nat.{ℕ, _+_, _^_, _≤_, _<_}
 use lib.ListN.{length, getD}
+use Rattle.laws.specs.Lowest.{LowestFailing}
 use Rattle.number.specs.declared.Order.{Order}
 use Rattle.number.specs.Bytes.{number}
 use Rattle.triplet.specs.declared.Ids.{Ids}
-use Rattle.triplet.specs.Triplet.{largestPart, widthOf, idCode, tileCode, otherCode, reservedBits}
-use Rattle.triplet.specs.Written.{sizeOf}
+use Rattle.triplet.specs.Triplet.{badTriplet, largestPart, widthOf, idCode, tileCode, otherCode, reservedBits}
+use Rattle.triplet.specs.Written.{noSuchPlace, tooShort, partNumbered, sizeOf}
 
 -- the w bytes at the place `at` are there and say v, "unsigned, at most 2,147,483,647"; no bytes say 0
 pub record PartIs (o : Order) (s : List ℕ) (at w v : ℕ) : Type 0 where
@@ -81,3 +82,14 @@ pub record FitsAt (len at : ℕ) (t : Ids) (n : ℕ) : Type 0 where
   pub place : at ≤ len
   pub room : at + n ≤ len
   pub long : n ≡ sizeOf t
+
+-- part k of 1 to 3 is "at most 2,147,483,647"
+abbrev pub PartSmall : Ids → ℕ → Type 0
+PartSmall t k = partNumbered t k ≤ largestPart
+
+-- THE TRIPLET IS REFUSED with n at p: "It tests a part too large (11, lowest such part, 1 to 3), then a place beyond the buffer (13),
+-- then room (14, start place plus bytes)."
+pub data NotWritten (len at : ℕ) (t : Ids) : ℕ → ℕ → Type 0 where
+  part-too-large : {k : ℕ} → LowestFailing 3 (PartSmall t) k → NotWritten len at t badTriplet k
+  place-beyond : SmallParts t → len < at → NotWritten len at t noSuchPlace at
+  no-room : SmallParts t → at ≤ len → len < at + sizeOf t → NotWritten len at t tooShort (at + sizeOf t)

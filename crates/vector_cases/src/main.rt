@@ -4,12 +4,28 @@ ghost use Prim.Native.Nat.{_<_};
 use libc::STDOUT_FILENO;
 use number::Order;
 use report::Sizes;
+use teller::MOST_TEXT;
 
 // The size of one of the six files, from 0.
 fn size_of(sizes: &[u8], file: usize) -> usize
     requires { ⌜ file < 6 ⌝ }
 {
     number::read8(sizes, 8 * file, Order::Least) as usize
+}
+
+// Writes the text of the six files, each said to have a size.
+fn write_text(
+    sizes: Sizes,
+    edg: &[u8],
+    edx: &[u8],
+    fac: &[u8],
+    rng: &[u8],
+    cnd: &[u8],
+    cnx: &[u8],
+) {
+    let mut text = [0u8; MOST_TEXT];
+    let n = teller::tell_tile(sizes, edg, edx, fac, rng, cnd, cnx, &mut text);
+    io::write_all(STDOUT_FILENO, &text[0..n]);
 }
 
 fn run_case(case: &[u8]) {
@@ -31,7 +47,7 @@ fn run_case(case: &[u8]) {
         cnd: size_of(said, 4),
         cnx: size_of(said, 5),
     };
-    teller::tell_tile(
+    write_text(
         sizes,
         casefile::field(case, edg),
         casefile::field(case, edx),
@@ -61,4 +77,5 @@ fn main() {
     run_file(b"tiles2");
     run_file(b"tiles3");
     run_file(b"tiles4");
+    run_file(b"tiles5");
 }

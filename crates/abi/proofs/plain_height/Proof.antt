@@ -4,19 +4,15 @@ use Rattle.abi.proofs.plain_height.Tie as tie
 use Rattle.abi.proofs.plain_height.Reads as reads
 use Rattle.abi.proofs.plain_height.Lts as lts
 
--- src/lib.rt:81:29
 enum-known-h : tie.Need-enum-known-h
 enum-known-h c = search needs
 
--- src/lib.rt:82:25
 enum-known-h-2 : tie.Need-enum-known-h-2
 enum-known-h-2 c = search needs
 
--- src/lib.rt:77:1
 returns : tie.Need-returns
 returns c = simp (c .before .h .given .1)
 
--- src/lib.rt:77:1
 returns-2 : tie.Need-returns-2
 returns-2 c = simp (c .before .h2 .given .1)
 

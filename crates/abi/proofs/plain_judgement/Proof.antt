@@ -4,27 +4,21 @@ use Rattle.abi.proofs.plain_judgement.Tie as tie
 use Rattle.abi.proofs.plain_judgement.Reads as reads
 use Rattle.abi.proofs.plain_judgement.Lts as lts
 
--- src/lib.rt:90:30
 enum-told : tie.Need-enum-told
 enum-told c = search needs
 
--- src/lib.rt:91:31
 enum-told-2 : tie.Need-enum-told-2
 enum-told-2 c = search needs
 
--- src/lib.rt:92:28
 enum-known-j : tie.Need-enum-known-j
 enum-known-j c = search needs
 
--- src/lib.rt:86:1
 returns : tie.Need-returns
 returns c = simp (c .enum-told .given .1)
 
--- src/lib.rt:86:1
 returns-2 : tie.Need-returns-2
 returns-2 c = simp (c .enum-told2 .given .1)
 
--- src/lib.rt:86:1
 returns-3 : tie.Need-returns-3
 returns-3 c = simp (c .before .j .given .1)
 

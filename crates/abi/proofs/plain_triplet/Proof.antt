@@ -4,19 +4,15 @@ use Rattle.abi.proofs.plain_triplet.Tie as tie
 use Rattle.abi.proofs.plain_triplet.Reads as reads
 use Rattle.abi.proofs.plain_triplet.Lts as lts
 
--- src/lib.rt:100:21
 enum-known-t : tie.Need-enum-known-t
 enum-known-t c = search needs
 
--- src/lib.rt:101:26
 enum-known-t-2 : tie.Need-enum-known-t-2
 enum-known-t-2 c = search needs
 
--- src/lib.rt:96:1
 returns : tie.Need-returns
 returns c = simp (c .before .t .given .1)
 
--- src/lib.rt:96:1
 returns-2 : tie.Need-returns-2
 returns-2 c = simp (c .before .t2 .given .1)
 

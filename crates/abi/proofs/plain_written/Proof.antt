@@ -4,19 +4,15 @@ use Rattle.abi.proofs.plain_written.Tie as tie
 use Rattle.abi.proofs.plain_written.Reads as reads
 use Rattle.abi.proofs.plain_written.Lts as lts
 
--- src/lib.rt:109:24
 enum-known-w : tie.Need-enum-known-w
 enum-known-w c = search needs
 
--- src/lib.rt:110:26
 enum-known-w-2 : tie.Need-enum-known-w-2
 enum-known-w-2 c = search needs
 
--- src/lib.rt:105:1
 returns : tie.Need-returns
 returns c = simp (c .before .w .given .1)
 
--- src/lib.rt:105:1
 returns-2 : tie.Need-returns-2
 returns-2 c = simp (c .before .w2 .given .1)
 

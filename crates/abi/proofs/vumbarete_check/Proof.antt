@@ -6,19 +6,15 @@ use Rattle.abi.proofs.vumbarete_check.Lts as lts
 use Rattle.abi.proofs.plain_verdict.Reads as plain-verdict-reads
 use Rattle.tile.proofs.check.Reads as check-reads
 
--- src/lib.rt:190:19
 check-requires : tie.Need-check-requires
 check-requires c κs = search needs
 
--- src/lib.rt:190:5
 plain-verdict-requires : tie.Need-plain-verdict-requires
 plain-verdict-requires c κs = search needs
 
--- src/lib.rt:173:1
 same-length : tie.Need-same-length
 same-length c = search needs
 
--- src/lib.rt:173:1
 returns : tie.Need-returns
 returns c = (simp (← c .plain-verdict .ensures, ← c .before .before .before .check .ensures .0), search needs)
 

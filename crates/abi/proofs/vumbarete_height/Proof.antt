@@ -6,15 +6,12 @@ use Rattle.abi.proofs.vumbarete_height.Lts as lts
 use Rattle.abi.proofs.plain_height.Reads as plain-height-reads
 use Rattle.wave.proofs.thousandths.Reads as thousandths-reads
 
--- src/lib.rt:139:18
 thousandths-requires : tie.Need-thousandths-requires
 thousandths-requires c κs = search needs
 
--- src/lib.rt:139:5
 plain-height-requires : tie.Need-plain-height-requires
 plain-height-requires c κs = search needs
 
--- src/lib.rt:135:1
 returns : tie.Need-returns
 returns c = simp (← c .plain-height .ensures, ← c .before .thousandths .ensures)
 

@@ -6,15 +6,12 @@ use Rattle.abi.proofs.vumbarete_passes.Lts as lts
 use Rattle.abi.proofs.plain_judgement.Reads as plain-judgement-reads
 use Rattle.wave.proofs.passes.Reads as passes-reads
 
--- src/lib.rt:147:21
 passes-requires : tie.Need-passes-requires
 passes-requires c κs = search needs
 
--- src/lib.rt:147:5
 plain-judgement-requires : tie.Need-plain-judgement-requires
 plain-judgement-requires c κs = search needs
 
--- src/lib.rt:143:1
 returns : tie.Need-returns
 returns c = simp (← c .plain-judgement .ensures, ← c .before .passes .ensures)
 

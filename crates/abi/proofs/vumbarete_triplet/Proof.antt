@@ -7,19 +7,15 @@ use Rattle.abi.proofs.order_for.Reads as order-for-reads
 use Rattle.abi.proofs.plain_triplet.Reads as plain-triplet-reads
 use Rattle.triplet.proofs.read.Reads as read-reads
 
--- src/lib.rt:157:40
 order-for-requires : tie.Need-order-for-requires
 order-for-requires c κs = search needs
 
--- src/lib.rt:157:19
 read-requires : tie.Need-read-requires
 read-requires c κs = search needs
 
--- src/lib.rt:157:5
 plain-triplet-requires : tie.Need-plain-triplet-requires
 plain-triplet-requires c κs = search needs
 
--- src/lib.rt:153:1
 returns : tie.Need-returns
 returns c = simp (← c .plain-triplet .ensures, ← c .before .read .ensures, ← c .before .before .order-for .ensures)
 

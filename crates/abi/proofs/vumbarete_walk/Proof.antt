@@ -6,19 +6,15 @@ use Rattle.abi.proofs.vumbarete_walk.Lts as lts
 use Rattle.abi.proofs.plain_steps.Reads as plain-steps-reads
 use Rattle.tile.proofs.walk.Reads as walk-reads
 
--- src/lib.rt:212:17
 walk-requires : tie.Need-walk-requires
 walk-requires c κs = search needs
 
--- src/lib.rt:212:5
 plain-steps-requires : tie.Need-plain-steps-requires
 plain-steps-requires c κs = search needs
 
--- src/lib.rt:194:1
 same-length : tie.Need-same-length
 same-length c = search needs
 
--- src/lib.rt:194:1
 returns : tie.Need-returns
 returns c = (simp (← c .plain-steps .ensures, ← c .before .before .before .walk .ensures .0), simp (← c .before .before .before .walk .ensures .0, c .before .before .before .walk .ensures .1))
 

@@ -1,75 +1,43 @@
+-- `directory::check_loaded` meets its contract: counts that the columns cannot have, or else the check of their front.
 use borrow.Author.Needs.{needs}
+use Rattle.directory.specs.Columns.{columns}
+use Rattle.directory.proofs.OutcomeLaws.{counts-refused, counts-fit}
 use Rattle.directory.proofs.check_loaded.Statement.{statement}
 use Rattle.directory.proofs.check_loaded.Tie as tie
 
--- src/lib.rt:162:9
-front-of-requires : tie.Need-front-of-requires
-front-of-requires c κs = search needs
-
--- src/lib.rt:163:9
-front-of-requires-2 : tie.Need-front-of-requires-2
-front-of-requires-2 c κs = search needs
-
--- src/lib.rt:164:9
-front-of-requires-3 : tie.Need-front-of-requires-3
-front-of-requires-3 c κs = search needs
-
--- src/lib.rt:165:9
-front-of-requires-4 : tie.Need-front-of-requires-4
-front-of-requires-4 c κs = search needs
-
--- src/lib.rt:166:9
-front-of-requires-5 : tie.Need-front-of-requires-5
-front-of-requires-5 c κs = search needs
-
--- src/lib.rt:167:9
-front-of-requires-6 : tie.Need-front-of-requires-6
-front-of-requires-6 c κs = search needs
-
--- src/lib.rt:168:9
-front-of-requires-7 : tie.Need-front-of-requires-7
-front-of-requires-7 c κs = search needs
-
--- src/lib.rt:169:9
-front-of-requires-8 : tie.Need-front-of-requires-8
-front-of-requires-8 c κs = search needs
-
--- src/lib.rt:170:9
-front-of-requires-9 : tie.Need-front-of-requires-9
-front-of-requires-9 c κs = search needs
-
--- src/lib.rt:171:9
-front-of-requires-10 : tie.Need-front-of-requires-10
-front-of-requires-10 c κs = search needs
-
--- src/lib.rt:160:5
-check-tile-requires : tie.Need-check-tile-requires
-check-tile-requires c κs = search needs
-
--- src/lib.rt:139:1
-same-length : tie.Need-same-length
-same-length c = search needs
-
--- src/lib.rt:139:1
 returns : tie.Need-returns
 returns c =
-    (rw ((c .before .before .before .before .before .before .before .before .before .before .before .before .before .front-of) .ensures, (c .before .before .before .before .before .before .before .before .before .before .before .before .front-of2) .ensures, (c .before .before .before .before .before .before .before .before .before .before .before .front-of3) .ensures, (c .before .before .before .before .before .before .before .before .before .before .front-of4) .ensures, (c .before .before .before .before .before .before .before .before .before .front-of5) .ensures, (c .before .before .before .before .before .before .before .before .front-of6) .ensures, (c .before .before .before .before .before .before .before .front-of7) .ensures, (c .before .before .before .before .before .before .front-of8) .ensures, (c .before .before .before .before .before .front-of9) .ensures, (c .before .before .before .before .front-of10) .ensures) at ((c .before .before .check-tile) .ensures .0),
-    rw ((c .before .before .before .before .before .before .before .before .before .before .before .before .before .front-of) .ensures, (c .before .before .before .before .before .before .before .before .before .before .before .before .front-of2) .ensures, (c .before .before .before .before .before .before .before .before .before .before .before .front-of3) .ensures, (c .before .before .before .before .before .before .before .before .before .before .front-of4) .ensures, (c .before .before .before .before .before .before .before .before .before .front-of5) .ensures, (c .before .before .before .before .before .before .before .before .front-of6) .ensures, (c .before .before .before .before .before .before .before .front-of7) .ensures, (c .before .before .before .before .before .before .front-of8) .ensures, (c .before .before .before .before .before .front-of9) .ensures, (c .before .before .before .before .front-of10) .ensures) at ((c .before .before .check-tile) .ensures .1))
+    let at-refuse = c .before in
+    let at-file = at-refuse .before .before in
+    let at-short-table = at-file .before .before in
+    let start = at-short-table .before .before .before .before .before .before .before .before .before .before .before .before in
+    let s = start .args in
+    let l = columns (s .start-node .now) (s .end-node .now) (s .right-face .now) (s .left-face .now) (s .right-edge .now) (s .left-edge .now)
+    (s .ring-ptr .now) (s .fac-id .now) (s .start-edge .now) (s .first-edge .now) in
+    counts-refused (s .counts) l _ (at-short-table .short-table .ensures) _ (at-file .file .given .1) _ _ (c .name .ensures) (at-refuse .refuse .ensures) (s .marks .now)
+
+returns-2 : tie.Need-returns-2
+returns-2 c =
+    let at-check-front = c .before .before in
+    let at-enum-told = at-check-front .before .before in
+    let at-short-table = at-enum-told .before .before in
+    let start = at-short-table .before .before .before .before .before .before .before .before .before .before .before .before in
+    let s = start .args in
+    let l = columns (s .start-node .now) (s .end-node .now) (s .right-face .now) (s .left-face .now) (s .right-edge .now) (s .left-edge .now)
+    (s .ring-ptr .now) (s .fac-id .now) (s .start-edge .now) (s .first-edge .now) in
+    counts-fit (s .counts) l _ (at-short-table .short-table .ensures) (at-enum-told .enum-told .given .1) (s .marks .now) _ _
+    (at-check-front .check-front .ensures .0) (at-check-front .check-front .ensures .1)
 
 pub check-loaded-spec : {M : Type 1} → statement M
 check-loaded-spec =
     tie.close
     (tie.spec
-    front-of-requires
-    front-of-requires-2
-    front-of-requires-3
-    front-of-requires-4
-    front-of-requires-5
-    front-of-requires-6
-    front-of-requires-7
-    front-of-requires-8
-    front-of-requires-9
-    front-of-requires-10
-    check-tile-requires
-    same-length
-    returns)
+    (λ c κs. search needs)
+    (λ c. search needs)
+    (λ c κs. search needs)
+    (λ c κs. search needs)
+    returns
+    (λ c. search needs)
+    (λ c κs. search needs)
+    (λ c. search needs)
+    returns-2)

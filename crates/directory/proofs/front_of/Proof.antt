@@ -7,23 +7,18 @@ use borrow.Author.Needs.{needs}
 use Rattle.directory.proofs.front_of.Statement.{statement}
 use Rattle.directory.proofs.front_of.Tie as tie
 
--- src/lib.rt:174:9
 returns : tie.Need-returns
 returns c = sym (take-all ((c .before .args) .n) ((c .before .args) .column .now) ((c .if1) .taken))
 
--- src/lib.rt:176:5
 sub-result : tie.Need-sub-result
 sub-result c = search needs
 
--- src/lib.rt:176:5
 part-result-start : tie.Need-part-result-start
 part-result-start c = search needs
 
--- src/lib.rt:176:5
 part-result-end : tie.Need-part-result-end
 part-result-end c = search needs
 
--- src/lib.rt:170:1
 returns-2 : tie.Need-returns-2
 returns-2 c = ap (λ (n : ℕ). take n ((c .before .before .args) .column .now)) (sub-zero ((c .before .before .args) .n))
 

@@ -1,5 +1,5 @@
 use borrow.Author.Needs.{needs}
-use Rattle.header.specs.Stages.{layoutAt}
+use Rattle.header.specs.Serving.Stages.{layoutAt}
 use Rattle.header.proofs.lay_column.Statement.{statement}
 use Rattle.header.proofs.lay_column.Tie as tie
 

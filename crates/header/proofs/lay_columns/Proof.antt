@@ -1,6 +1,6 @@
 use Rattle.header.proofs.LayoutLaws.{varies-next, bytes-next, cols-next, all-laid}
 use Rattle.header.proofs.PlaceLaws.{at-first, at-next}
-use Rattle.header.specs.Stages.{greatestSize}
+use Rattle.header.specs.Serving.Stages.{greatestSize}
 use Rattle.header.specs.Layouts.{someVaries, bytesOfAll, blankColumn, laidOut}
 use Rattle.header.specs.Judge.{mostColumns}
 use Rattle.header.specs.Places.{placeAfter}

@@ -1,5 +1,5 @@
 use Rattle.header.proofs.CountLaws.{decimal-next, decimal-done, decimal-bound}
-use Rattle.header.specs.Stages.{greatestCount}
+use Rattle.header.specs.Serving.Stages.{greatestCount}
 use Rattle.header.specs.Places.{decimal}
 use lib.ListN.{take, drop}
 use native.Mathlib.Omega.{arith}

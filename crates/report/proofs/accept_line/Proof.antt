@@ -1,84 +1,124 @@
 -- `report::accept_line` meets its contract: nine pieces, one behind the other, are the line, and it fits.
--- Assumes nothing.
-use Rattle.report.specs.Lines.{acceptLine, acceptText, edgesText, facesText, ringsText}
-use Rattle.report.specs.Text.{decimal, lineEnd}
-use mathlib.Core.List.{[], _∷_, append-assoc}
-use Rattle.report.proofs.LineFits.{accept-fits, line-written}
-use Rattle.laws.proofs.PieceLaws.{begun-none, begun-more}
-use native.Mathlib.Omega.{arith}
 use borrow.Author.Needs.{needs}
+use Rattle.report.specs.Text.{decimal, space, lineEnd}
+use mathlib.Core.List.{[], _∷_, append-assoc}
+use mathlib.Core.Path.{refl, ap, _∙_}
+use native.Mathlib.Omega.{arith}
+use borrow.Author.Tests.{lt-ltb}
+use Rattle.laws.proofs.PieceLaws.{begun-none, begun-more}
+use Rattle.report.specs.Lines.{acceptLine, acceptText, edgesText, facesText, ringsText}
+use Rattle.report.proofs.LineFits.{accept-fits, line-written}
 use Rattle.report.proofs.accept_line.Statement.{statement}
 use Rattle.report.proofs.accept_line.Tie as tie
 
-slice-aggregate-put-text : tie.Need-slice-aggregate-put-text
-slice-aggregate-put-text c = search needs
-
-put-text-requires : tie.Need-put-text-requires
-put-text-requires c κs = search needs
-
-put-number-requires : tie.Need-put-number-requires
-put-number-requires c κs = search needs
-
-slice-aggregate-put-text-2 : tie.Need-slice-aggregate-put-text-2
-slice-aggregate-put-text-2 c = search needs
-
-put-text-requires-2 : tie.Need-put-text-requires-2
-put-text-requires-2 c κs = search needs
-
-put-number-requires-2 : tie.Need-put-number-requires-2
-put-number-requires-2 c κs = search needs
-
-slice-aggregate-put-text-3 : tie.Need-slice-aggregate-put-text-3
-slice-aggregate-put-text-3 c = search needs
-
-put-text-requires-3 : tie.Need-put-text-requires-3
-put-text-requires-3 c κs = search needs
-
-put-number-requires-3 : tie.Need-put-number-requires-3
-put-number-requires-3 c κs = search needs
-
-slice-aggregate-put-text-4 : tie.Need-slice-aggregate-put-text-4
-slice-aggregate-put-text-4 c = search needs
-
-put-text-requires-4 : tie.Need-put-text-requires-4
-put-text-requires-4 c κs = search needs
+returns : tie.Need-returns
+returns c =
+    rw (lt-ltb _ _ (c .if1 .taken)) (refl, refl)
 
 put-number-requires-4 : tie.Need-put-number-requires-4
-put-number-requires-4 c κs = search needs
+put-number-requires-4 c κs =
+    let at-put-text4 = c .before .before .before in
+    let at-put-number3 = at-put-text4 .before .before .before .before .before in
+    let at-put-text3 = at-put-number3 .before .before .before .before in
+    let at-put-number2 = at-put-text3 .before .before .before .before .before in
+    let at-put-text2 = at-put-number2 .before .before .before .before in
+    let at-put-number = at-put-text2 .before .before .before .before .before in
+    let at-put-text = at-put-number .before .before .before .before in
+    let at-if1 = at-put-text .before .before .before in
+    omega (
+      arith,
+      at-if1 .if1 .left,
+      at-put-text4 .put-text4 .ensures .0,
+      at-put-number3 .put-number3 .ensures .0,
+      at-put-text3 .put-text3 .ensures .0,
+      at-put-number2 .put-number2 .ensures .0,
+      at-put-text2 .put-text2 .ensures .0,
+      at-put-number .put-number .ensures .0,
+      at-put-text .put-text .ensures .0,
+    )
 
 put-byte-requires : tie.Need-put-byte-requires
-put-byte-requires c κs = omega (arith, (c .put-byte-arg) .given, (c .before .put-number4) .ensures .0, (c .before .before .before .put-text4) .ensures .0, (c .before .before .before .before .before .before .put-number3) .ensures .0, (c .before .before .before .before .before .before .before .before .put-text3) .ensures .0, (c .before .before .before .before .before .before .before .before .before .before .before .put-number2) .ensures .0, (c .before .before .before .before .before .before .before .before .before .before .before .before .before .put-text2) .ensures .0, (c .before .before .before .before .before .before .before .before .before .before .before .before .before .before .before .before .put-number) .ensures .0, (c .before .before .before .before .before .before .before .before .before .before .before .before .before .before .before .before .before .before .put-text) .ensures .0)
+put-byte-requires c κs =
+    let at-put-number4 = c .before .before .before in
+    let at-put-text4 = at-put-number4 .before .before .before .before in
+    let at-put-number3 = at-put-text4 .before .before .before .before .before in
+    let at-put-text3 = at-put-number3 .before .before .before .before in
+    let at-put-number2 = at-put-text3 .before .before .before .before .before in
+    let at-put-text2 = at-put-number2 .before .before .before .before in
+    let at-put-number = at-put-text2 .before .before .before .before .before in
+    let at-put-text = at-put-number .before .before .before .before in
+    let at-if1 = at-put-text .before .before .before in
+    omega (
+      arith,
+      at-if1 .if1 .left,
+      at-put-number4 .put-number4 .ensures .0,
+      at-put-text4 .put-text4 .ensures .0,
+      at-put-number3 .put-number3 .ensures .0,
+      at-put-text3 .put-text3 .ensures .0,
+      at-put-number2 .put-number2 .ensures .0,
+      at-put-text2 .put-text2 .ensures .0,
+      at-put-number .put-number .ensures .0,
+      at-put-text .put-text .ensures .0,
+    )
 
-returns : tie.Need-returns
+same-length : tie.Need-same-length
+same-length c =
+    let at-put-byte = c .before .before in
+    let at-put-number4 = at-put-byte .before .before .before .before in
+    let at-put-text4 = at-put-number4 .before .before .before .before in
+    let at-put-number3 = at-put-text4 .before .before .before .before .before in
+    let at-put-text3 = at-put-number3 .before .before .before .before in
+    let at-put-number2 = at-put-text3 .before .before .before .before .before in
+    let at-put-text2 = at-put-number2 .before .before .before .before in
+    let at-put-number = at-put-text2 .before .before .before .before .before in
+    let at-put-text = at-put-number .before .before .before .before in
+    at-put-byte .put-byte .kept .0 ∙ (at-put-number4 .put-number4 .kept .0 ∙ (at-put-text4 .put-text4 .kept .0 ∙
+    (at-put-number3 .put-number3 .kept .0 ∙ (at-put-text3 .put-text3 .kept .0 ∙ (at-put-number2 .put-number2 .kept .0
+    ∙ (at-put-text2 .put-text2 .kept .0 ∙ (at-put-number .put-number .kept .0 ∙ at-put-text .put-text .kept .0)))))))
+
+returns-2 : tie.Need-returns-2
 unfolding acceptLine
-returns c =
-    let s = (c .before .before .before .before .before .before .before .before .before .before .before .before .before .before .before .before .before .before .before .before .before .before .args) in
-    let b = begun-more acceptText (begun-none (s .out .now)) ((c .before .before .before .before .before .before .before .before .before .before .before .before .before .before .before .before .before .before .before .put-text) .ensures .0) ((c .before .before .before .before .before .before .before .before .before .before .before .before .before .before .before .before .before .before .before .put-text) .ensures .1) in
-    let b₁ = begun-more (decimal (s .counts .nodes)) b ((c .before .before .before .before .before .before .before .before .before .before .before .before .before .before .before .before .before .put-number) .ensures .0 .0) ((c .before .before .before .before .before .before .before .before .before .before .before .before .before .before .before .before .before .put-number) .ensures .1) in
-    let b₂ = begun-more edgesText b₁ ((c .before .before .before .before .before .before .before .before .before .before .before .before .before .before .put-text2) .ensures .0) ((c .before .before .before .before .before .before .before .before .before .before .before .before .before .before .put-text2) .ensures .1) in
-    let b₃ = begun-more (decimal (s .counts .edges)) b₂ ((c .before .before .before .before .before .before .before .before .before .before .before .before .put-number2) .ensures .0 .0) ((c .before .before .before .before .before .before .before .before .before .before .before .before .put-number2) .ensures .1) in
-    let b₄ = begun-more facesText b₃ ((c .before .before .before .before .before .before .before .before .before .put-text3) .ensures .0) ((c .before .before .before .before .before .before .before .before .before .put-text3) .ensures .1) in
-    let b₅ = begun-more (decimal (s .counts .faces)) b₄ ((c .before .before .before .before .before .before .before .put-number3) .ensures .0 .0) ((c .before .before .before .before .before .before .before .put-number3) .ensures .1) in
-    let b₆ = begun-more ringsText b₅ ((c .before .before .before .before .put-text4) .ensures .0) ((c .before .before .before .before .put-text4) .ensures .1) in
-    let b₇ = begun-more (decimal (s .counts .rings)) b₆ ((c .before .before .put-number4) .ensures .0 .0) ((c .before .before .put-number4) .ensures .1) in
-    let b₈ = begun-more (lineEnd ∷ []) b₇ ((c .put-byte) .ensures .0) ((c .put-byte) .ensures .1) in
-    line-written (acceptLine (s .counts)) b₈ (simp append-assoc) (accept-fits (s .counts)) (omega (arith, (c .before .before .before .before .before .before .before .before .before .before .before .before .before .before .before .before .before .before .before .before .before .put-text-arg) .given))
+returns-2 c =
+    let at-put-byte = c .before .before in
+    let at-put-number4 = at-put-byte .before .before .before .before in
+    let at-put-text4 = at-put-number4 .before .before .before .before in
+    let at-put-number3 = at-put-text4 .before .before .before .before .before in
+    let at-put-text3 = at-put-number3 .before .before .before .before in
+    let at-put-number2 = at-put-text3 .before .before .before .before .before in
+    let at-put-text2 = at-put-number2 .before .before .before .before in
+    let at-put-number = at-put-text2 .before .before .before .before .before in
+    let at-put-text = at-put-number .before .before .before .before in
+    let at-if1 = at-put-text .before .before .before in
+    let start = at-if1 .before .before in
+    let s = start .args in
+    let b = begun-more acceptText (begun-none (s .out .now)) (at-put-text .put-text .ensures .0) (at-put-text .put-text .ensures .1) in
+    let b₁ = begun-more (decimal (s .counts .nodes)) b (at-put-number .put-number .ensures .0 .0) (at-put-number .put-number .ensures .1) in
+    let b₂ = begun-more edgesText b₁ (at-put-text2 .put-text2 .ensures .0) (at-put-text2 .put-text2 .ensures .1) in
+    let b₃ = begun-more (decimal (s .counts .edges)) b₂ (at-put-number2 .put-number2 .ensures .0 .0) (at-put-number2 .put-number2 .ensures .1) in
+    let b₄ = begun-more facesText b₃ (at-put-text3 .put-text3 .ensures .0) (at-put-text3 .put-text3 .ensures .1) in
+    let b₅ = begun-more (decimal (s .counts .faces)) b₄ (at-put-number3 .put-number3 .ensures .0 .0) (at-put-number3 .put-number3 .ensures .1) in
+    let b₆ = begun-more ringsText b₅ (at-put-text4 .put-text4 .ensures .0) (at-put-text4 .put-text4 .ensures .1) in
+    let b₇ = begun-more (decimal (s .counts .rings)) b₆ (at-put-number4 .put-number4 .ensures .0 .0) (at-put-number4 .put-number4 .ensures .1) in
+    let b₈ = begun-more (lineEnd ∷ []) b₇ (at-put-byte .put-byte .ensures .0) (at-put-byte .put-byte .ensures .1) in
+    line-written (acceptLine (s .counts)) b₈ (simp append-assoc) (accept-fits (s .counts)) (at-if1 .if1 .left)
 
 pub accept-line-spec : {M : Type 1} → statement M
 accept-line-spec =
     tie.close
     (tie.spec
-    slice-aggregate-put-text
-    put-text-requires
-    put-number-requires
-    slice-aggregate-put-text-2
-    put-text-requires-2
-    put-number-requires-2
-    slice-aggregate-put-text-3
-    put-text-requires-3
-    put-number-requires-3
-    slice-aggregate-put-text-4
-    put-text-requires-4
+    returns
+    (λ c. search needs)
+    (λ c κs. search needs)
+    (λ c κs. search needs)
+    (λ c. search needs)
+    (λ c κs. search needs)
+    (λ c κs. search needs)
+    (λ c. search needs)
+    (λ c κs. search needs)
+    (λ c κs. search needs)
+    (λ c. search needs)
+    (λ c κs. search needs)
     put-number-requires-4
     put-byte-requires
-    returns)
+    same-length
+    returns-2)

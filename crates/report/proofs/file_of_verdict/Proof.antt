@@ -15,11 +15,23 @@ is-ring-row-requires c κs = search needs
 
 returns-2 : tie.Need-returns-2
 unfolding fileOfVerdict
-returns-2 c = simp (c .if3 .taken, ← c .before .is-ring-row .ensures, eq-eqb _ _ (c .before .before .if2 .taken), ne-eqb _ _ (c .before .before .before .before .if1 .left))
+returns-2 c = simp (
+  c .if3 .taken,
+  ← c .before .is-ring-row .ensures,
+  eq-eqb _ _ (c .before .before .if2 .taken),
+  ne-eqb _ _
+      (c .before .before .before .before .if1 .left),
+)
 
 returns-3 : tie.Need-returns-3
 unfolding fileOfVerdict
-returns-3 c = simp (c .if3 .left, ← c .before .is-ring-row .ensures, eq-eqb _ _ (c .before .before .if2 .taken), ne-eqb _ _ (c .before .before .before .before .if1 .left))
+returns-3 c = simp (
+  c .if3 .left,
+  ← c .before .is-ring-row .ensures,
+  eq-eqb _ _ (c .before .before .if2 .taken),
+  ne-eqb _ _
+      (c .before .before .before .before .if1 .left),
+)
 
 returns-4 : tie.Need-returns-4
 unfolding fileOfVerdict
@@ -27,11 +39,21 @@ returns-4 c = simp (eq-eqb _ _ (c .if4 .taken), ne-eqb _ _ (c .before .before .i
 
 returns-5 : tie.Need-returns-5
 unfolding fileOfVerdict
-returns-5 c = simp (eq-eqb _ _ (c .if5 .taken), ne-eqb _ _ (c .before .before .if4 .left), ne-eqb _ _ (c .before .before .before .before .if2 .left), ne-eqb _ _ (c .before .before .before .before .before .before .if1 .left))
+returns-5 c = simp (
+  eq-eqb _ _ (c .if5 .taken),
+  ne-eqb _ _ (c .before .before .if4 .left),
+  ne-eqb _ _ (c .before .before .before .before .if2 .left),
+  ne-eqb _ _ (c .before .before .before .before .before .before .if1 .left),
+)
 
 returns-6 : tie.Need-returns-6
 unfolding fileOfVerdict
-returns-6 c = simp (ne-eqb _ _ (c .if5 .left), ne-eqb _ _ (c .before .before .if4 .left), ne-eqb _ _ (c .before .before .before .before .if2 .left), ne-eqb _ _ (c .before .before .before .before .before .before .if1 .left))
+returns-6 c = simp (
+  ne-eqb _ _ (c .if5 .left),
+  ne-eqb _ _ (c .before .before .if4 .left),
+  ne-eqb _ _ (c .before .before .before .before .if2 .left),
+  ne-eqb _ _ (c .before .before .before .before .before .before .if1 .left),
+)
 
 pub file-of-verdict-spec : {M : Type 1} → statement M
 file-of-verdict-spec =

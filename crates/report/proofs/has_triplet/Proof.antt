@@ -38,7 +38,8 @@ unfolding hasTriplet
 returns c =
     let l = (c .before .before .before .before .before .before .args) .t1 in
     let k = (c .before .before .before .before .loop) .k in
-    rw (lowest-found (tripletColumn l) (columnsOf l) k (omega arith) ((c .before .before .before .before .loop) .inv .1) (sym ((c .before .is-triplet) .ensures) ∙ (c .if1) .taken))
+    rw (lowest-found (tripletColumn l) (columnsOf l) k (omega arith) ((c .before .before .before .before .loop) .inv .1) (sym
+    ((c .before .is-triplet) .ensures) ∙ (c .if1) .taken))
     (sym (lt-ltb 0 (suc k) (omega arith)))
 
 add-k : tie.Need-add-k Inv-loop μ-loop
@@ -48,7 +49,11 @@ loop-less : tie.Need-loop-less Inv-loop μ-loop
 loop-less c = search needs
 
 loop-again : tie.Need-loop-again Inv-loop μ-loop
-loop-again c = (omega arith, none-next (tripletColumn ((c .before .before .before .before .before .before .args) .t1)) ((c .before .before .before .before .loop) .k) ((c .before .before .before .before .loop) .inv .1) (sym ((c .before .is-triplet) .ensures) ∙ (c .if1) .left))
+loop-again c = (
+  omega arith,
+  none-next (tripletColumn ((c .before .before .before .before .before .before .args) .t1))
+      ((c .before .before .before .before .loop) .k) ((c .before .before .before .before .loop) .inv .1) (sym ((c .before .is-triplet) .ensures) ∙ (c .if1) .left),
+)
 
 returns-2 : tie.Need-returns-2 Inv-loop μ-loop
 unfolding hasTriplet

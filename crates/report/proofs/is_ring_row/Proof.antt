@@ -18,10 +18,20 @@ cast-face : tie.Need-cast-face
 cast-face c = search needs
 
 returns-3 : tie.Need-returns-3
-returns-3 c = simp (le-ltb _ _ ((c .before .before .if2) .left), ne-eqb _ _ ((c .before .before .before .if1) .left), ← ((c .before .row) .ensures), eq-eqb _ _ ((c .if3) .taken))
+returns-3 c = simp (
+  le-ltb _ _ ((c .before .before .if2) .left),
+  ne-eqb _ _ ((c .before .before .before .if1) .left),
+  ← ((c .before .row) .ensures),
+  eq-eqb _ _ ((c .if3) .taken),
+)
 
 returns-4 : tie.Need-returns-4
-returns-4 c = simp (le-ltb _ _ ((c .before .before .if2) .left), ne-eqb _ _ ((c .before .before .before .if1) .left), ← ((c .before .row) .ensures), ne-eqb _ _ ((c .if3) .left))
+returns-4 c = simp (
+  le-ltb _ _ ((c .before .before .if2) .left),
+  ne-eqb _ _ ((c .before .before .before .if1) .left),
+  ← ((c .before .row) .ensures),
+  ne-eqb _ _ ((c .if3) .left),
+)
 
 pub is-ring-row-spec : {M : Type 1} → statement M
 is-ring-row-spec =

@@ -35,7 +35,12 @@ loop-less : tie.Need-loop-less Inv-loop μ-loop
 loop-less c = search needs
 
 loop-again : tie.Need-loop-again Inv-loop μ-loop
-loop-again c = (search needs, simp length-set ((c .before .before .loop) .inv .1), sym (sets-next ((c .before .before .before .args) .text .now) ((c .before .before .loop) .out) ((c .before .before .before .args) .at) ((c .before .before .loop) .i) (omega arith)) ∙ (c .before .before .loop) .inv .2)
+loop-again c = (
+  search needs,
+  simp length-set ((c .before .before .loop) .inv .1),
+  sym (sets-next ((c .before .before .before .args) .text .now)
+      ((c .before .before .loop) .out) ((c .before .before .before .args) .at) ((c .before .before .loop) .i) (omega arith)) ∙ (c .before .before .loop) .inv .2,
+)
 
 add-result : tie.Need-add-result Inv-loop μ-loop
 add-result c = search needs
@@ -44,7 +49,11 @@ same-length : tie.Need-same-length Inv-loop μ-loop
 same-length c = search needs
 
 returns : tie.Need-returns Inv-loop μ-loop
-returns c = (omega arith, sym (sets-end ((c .before .before .args) .text .now) ((c .before .loop) .out) ((c .before .before .args) .at + (c .before .loop) .i) ((c .before .loop) .i) (omega arith)) ∙ (c .before .loop) .inv .2)
+returns c = (
+  omega arith,
+  sym (sets-end ((c .before .before .args) .text .now) ((c .before .loop) .out) ((c .before .before .args) .at +
+      (c .before .loop) .i) ((c .before .loop) .i) (omega arith)) ∙ (c .before .loop) .inv .2,
+)
 
 pub put-text-spec : {M : Type 1} → statement M
 put-text-spec =

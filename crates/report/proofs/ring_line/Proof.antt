@@ -1,70 +1,56 @@
 -- `report::ring_line` meets its contract: seven pieces, one behind the other, are the line, and it fits.
--- Assumes nothing.
-use Rattle.report.specs.Lines.{ringLine, ringText, faceText, stepsText}
+use borrow.Author.Needs.{needs}
 use Rattle.report.specs.Text.{decimal, space, lineEnd}
 use mathlib.Core.List.{[], _∷_, append-assoc}
-use Rattle.report.proofs.LineFits.{ring-fits, line-written}
-use Rattle.laws.proofs.PieceLaws.{begun-none, begun-more}
+use mathlib.Core.Path.{refl, ap}
 use native.Mathlib.Omega.{arith}
-use borrow.Author.Needs.{needs}
+use borrow.Author.Tests.{lt-ltb}
+use Rattle.laws.proofs.PieceLaws.{begun-none, begun-more}
+use Rattle.report.specs.Lines.{ringLine, ringText, faceText, stepsText}
+use Rattle.report.proofs.LineFits.{ring-fits, line-written}
 use Rattle.report.proofs.ring_line.Statement.{statement}
 use Rattle.report.proofs.ring_line.Tie as tie
 
-slice-aggregate-put-text : tie.Need-slice-aggregate-put-text
-slice-aggregate-put-text c = search needs
-
-put-text-requires : tie.Need-put-text-requires
-put-text-requires c κs = search needs
-
-put-number-requires : tie.Need-put-number-requires
-put-number-requires c κs = search needs
-
-slice-aggregate-put-text-2 : tie.Need-slice-aggregate-put-text-2
-slice-aggregate-put-text-2 c = search needs
-
-put-text-requires-2 : tie.Need-put-text-requires-2
-put-text-requires-2 c κs = search needs
-
-put-number-requires-2 : tie.Need-put-number-requires-2
-put-number-requires-2 c κs = search needs
-
-slice-aggregate-put-text-3 : tie.Need-slice-aggregate-put-text-3
-slice-aggregate-put-text-3 c = search needs
-
-put-text-requires-3 : tie.Need-put-text-requires-3
-put-text-requires-3 c κs = search needs
-
-put-number-requires-3 : tie.Need-put-number-requires-3
-put-number-requires-3 c κs = search needs
-
-put-byte-requires : tie.Need-put-byte-requires
-put-byte-requires c κs = search needs
-
 returns : tie.Need-returns
-unfolding ringLine
 returns c =
-    let s = (c .before .before .before .before .before .before .before .before .before .before .before .before .before .before .before .before .before .args) in
-    let b = begun-more ringText (begun-none (s .out .now)) ((c .before .before .before .before .before .before .before .before .before .before .before .before .before .before .put-text) .ensures .0) ((c .before .before .before .before .before .before .before .before .before .before .before .before .before .before .put-text) .ensures .1) in
-    let b₁ = begun-more (decimal (s .row)) b ((c .before .before .before .before .before .before .before .before .before .before .before .before .put-number) .ensures .0 .0) ((c .before .before .before .before .before .before .before .before .before .before .before .before .put-number) .ensures .1) in
-    let b₂ = begun-more faceText b₁ ((c .before .before .before .before .before .before .before .before .before .put-text2) .ensures .0) ((c .before .before .before .before .before .before .before .before .before .put-text2) .ensures .1) in
-    let b₃ = begun-more (decimal (s .face)) b₂ ((c .before .before .before .before .before .before .before .put-number2) .ensures .0 .0) ((c .before .before .before .before .before .before .before .put-number2) .ensures .1) in
-    let b₄ = begun-more (space ∷ stepsText) b₃ ((c .before .before .before .before .put-text3) .ensures .0) ((c .before .before .before .before .put-text3) .ensures .1) in
-    let b₅ = begun-more (decimal (s .steps)) b₄ ((c .before .before .put-number3) .ensures .0 .0) ((c .before .before .put-number3) .ensures .1) in
-    let b₆ = begun-more (lineEnd ∷ []) b₅ ((c .put-byte) .ensures .0) ((c .put-byte) .ensures .1) in
-    line-written (ringLine (s .row) (s .face) (s .steps)) b₆ (simp append-assoc) (ring-fits (s .row) (s .face) (s .steps)) (omega (arith, (c .before .before .before .before .before .before .before .before .before .before .before .before .before .before .before .before .put-text-arg) .given))
+    rw (lt-ltb _ _ (c .if1 .taken)) (refl, refl)
+
+returns-2 : tie.Need-returns-2
+unfolding ringLine
+returns-2 c =
+    let at-put-byte = c .before .before in
+    let at-put-number3 = at-put-byte .before .before .before .before in
+    let at-put-text3 = at-put-number3 .before .before .before .before in
+    let at-put-number2 = at-put-text3 .before .before .before .before .before in
+    let at-put-text2 = at-put-number2 .before .before .before .before in
+    let at-put-number = at-put-text2 .before .before .before .before .before in
+    let at-put-text = at-put-number .before .before .before .before in
+    let at-if1 = at-put-text .before .before .before in
+    let start = at-if1 .before .before in
+    let s = start .args in
+    let b = begun-more ringText (begun-none (s .out .now)) (at-put-text .put-text .ensures .0) (at-put-text .put-text .ensures .1) in
+    let b₁ = begun-more (decimal (s .row)) b (at-put-number .put-number .ensures .0 .0) (at-put-number .put-number .ensures .1) in
+    let b₂ = begun-more faceText b₁ (at-put-text2 .put-text2 .ensures .0) (at-put-text2 .put-text2 .ensures .1) in
+    let b₃ = begun-more (decimal (s .face)) b₂ (at-put-number2 .put-number2 .ensures .0 .0) (at-put-number2 .put-number2 .ensures .1) in
+    let b₄ = begun-more (space ∷ stepsText) b₃ (at-put-text3 .put-text3 .ensures .0) (at-put-text3 .put-text3 .ensures .1) in
+    let b₅ = begun-more (decimal (s .steps)) b₄ (at-put-number3 .put-number3 .ensures .0 .0) (at-put-number3 .put-number3 .ensures .1) in
+    let b₆ = begun-more (lineEnd ∷ []) b₅ (at-put-byte .put-byte .ensures .0) (at-put-byte .put-byte .ensures .1) in
+    line-written (ringLine (s .row) (s .face) (s .steps)) b₆ (simp append-assoc) (ring-fits (s .row) (s .face) (s .steps)) (at-if1 .if1 .left)
 
 pub ring-line-spec : {M : Type 1} → statement M
 ring-line-spec =
     tie.close
     (tie.spec
-    slice-aggregate-put-text
-    put-text-requires
-    put-number-requires
-    slice-aggregate-put-text-2
-    put-text-requires-2
-    put-number-requires-2
-    slice-aggregate-put-text-3
-    put-text-requires-3
-    put-number-requires-3
-    put-byte-requires
-    returns)
+    returns
+    (λ c. search needs)
+    (λ c κs. search needs)
+    (λ c κs. search needs)
+    (λ c. search needs)
+    (λ c κs. search needs)
+    (λ c κs. search needs)
+    (λ c. search needs)
+    (λ c κs. search needs)
+    (λ c κs. search needs)
+    (λ c κs. search needs)
+    (λ c. search needs)
+    returns-2)

@@ -1,119 +1,53 @@
-use Rattle.directory.proofs.StepLaws.{rings-few}
-use Rattle.report.specs.Files.{showsTriplet}
-use Rattle.directory.specs.Outcome.{filesRead}
-use Rattle.teller.proofs.TellerLaws.{own-outcome}
-use mathlib.Core.Path.{sym, _∙_}
+-- `teller::tell_tile` meets its contract: what is told of the tile in its own columns is the directory's text.
 use borrow.Author.Needs.{needs}
+use mathlib.Core.Path.{_≡_, refl, sym, ap, _∙_}
+use Rattle.directory.specs.Files.{directory}
+use Rattle.teller.proofs.TextLaws.{directory-lines, directory-refusal}
 use Rattle.teller.proofs.tell_tile.Statement.{statement}
 use Rattle.teller.proofs.tell_tile.Tie as tie
 
--- src/lib.rt:154:62
-slice-aggregate-judge : tie.Need-slice-aggregate-judge
-slice-aggregate-judge c = search needs
-
--- src/lib.rt:154:79
-slice-aggregate-judge-2 : tie.Need-slice-aggregate-judge-2
-slice-aggregate-judge-2 c = search needs
-
--- src/lib.rt:154:94
-slice-aggregate-judge-3 : tie.Need-slice-aggregate-judge-3
-slice-aggregate-judge-3 c = search needs
-
--- src/lib.rt:154:111
-slice-aggregate-judge-4 : tie.Need-slice-aggregate-judge-4
-slice-aggregate-judge-4 c = search needs
-
--- src/lib.rt:154:127
-slice-aggregate-judge-5 : tie.Need-slice-aggregate-judge-5
-slice-aggregate-judge-5 c = search needs
-
--- src/lib.rt:154:144
-slice-aggregate-judge-6 : tie.Need-slice-aggregate-judge-6
-slice-aggregate-judge-6 c = search needs
-
--- src/lib.rt:154:160
-slice-aggregate-judge-7 : tie.Need-slice-aggregate-judge-7
-slice-aggregate-judge-7 c = search needs
-
--- src/lib.rt:154:175
-slice-aggregate-judge-8 : tie.Need-slice-aggregate-judge-8
-slice-aggregate-judge-8 c = search needs
-
--- src/lib.rt:154:188
-slice-aggregate-judge-9 : tie.Need-slice-aggregate-judge-9
-slice-aggregate-judge-9 c = search needs
-
--- src/lib.rt:154:205
-slice-aggregate-judge-10 : tie.Need-slice-aggregate-judge-10
-slice-aggregate-judge-10 c = search needs
-
--- src/lib.rt:154:222
-slice-aggregate-judge-11 : tie.Need-slice-aggregate-judge-11
-slice-aggregate-judge-11 c = search needs
-
--- src/lib.rt:154:9
-judge-requires : tie.Need-judge-requires
-judge-requires c κs = search needs
-
--- src/lib.rt:156:27
-enum-known-outcome : tie.Need-enum-known-outcome
-enum-known-outcome c = search needs
-
--- src/lib.rt:157:13
-say-counts-requires : tie.Need-say-counts-requires
-say-counts-requires c κs = search needs
-
--- src/lib.rt:158:23
-say-rings-requires : tie.Need-say-rings-requires
-say-rings-requires c κs =
-    let s = (c .before .before .before .before .before .before .before .before .before .before .before .before .before .before .before .before .before .before .before .before .before .before .before .before .before .before .before .before .before .before .before .before .before .before .before .before .before .before .before .before .before .before .before .args) in
-    rings-few (s .sizes) (showsTriplet (s .cnd .now)) (filesRead (s .edg .now) (s .edx .now) (s .fac .now) (s .rng .now) (s .cnd .now) (s .cnx .now)) _ _ _ (sym ((c .before .before .before .before .before .before .before .before .before .before .before .before .before .before .before .before .before .before .before .before .before .before .before .before .before .judge) .ensures) ∙ (c .before .before .before .before .before .before .before .before .before .before .before .before .outcome) .given .1)
-
--- src/lib.rt:158:13
-say-steps-requires : tie.Need-say-steps-requires
-say-steps-requires c κs = search needs
-
--- src/lib.rt:160:26
-enum-known-outcome-2 : tie.Need-enum-known-outcome-2
-enum-known-outcome-2 c = search needs
-
--- src/lib.rt:160:36
-say-refused-requires : tie.Need-say-refused-requires
-say-refused-requires c κs = search needs
-
--- src/lib.rt:140:1
 returns : tie.Need-returns
 returns c =
-    let s = (c .before .before .before .before .before .before .before .before .before .before .before .before .before .before .before .before .before .before .before .before .before .before .before .before .before .before .before .before .before .before .before .before .before .before .before .before .before .before .before .before .before .before .before .before .before .args) in
-    own-outcome (s .sizes) (showsTriplet (s .cnd .now)) (filesRead (s .edg .now) (s .edx .now) (s .fac .now) (s .rng .now) (s .cnd .now) (s .cnx .now)) _ (sym ((c .before .before .before .before .before .before .before .before .before .before .before .before .before .before .outcome) .given .1) ∙ (c .before .before .before .before .before .before .before .before .before .before .before .before .before .before .before .before .before .before .before .before .before .before .before .before .before .before .before .judge) .ensures)
+    let back12 = c .before .before .before .before .before .before .before .before .before .before .before .before in
+    let at-counts = back12 .before in
+    let at-load-files = at-counts .before .before .before .before .before .before .before .before .before .before .before .before in
+    let back37 = at-load-files .before .before .before .before .before .before .before .before .before .before .before .before in
+    let start = back37 .before .before .before .before .before in
+    let s = start .args in
+    let d = directory (s .edg .now) (s .edx .now) (s .fac .now) (s .rng .now) (s .cnd .now) (s .cnx .now) in
+    directory-lines (s .sizes) d _ _ (sym (at-load-files .load-files .ensures .0) ∙ at-counts .counts .given .1) _ (at-counts .counts .given .1)
+    (at-load-files .load-files .ensures .1) (s .text .now) _ _ (c .tell-loaded .ensures .0) (c .tell-loaded .ensures .1)
 
--- src/lib.rt:140:1
 returns-2 : tie.Need-returns-2
 returns-2 c =
-    let s = (c .before .before .before .before .before .before .before .before .before .before .before .before .before .before .before .before .before .before .before .before .before .before .before .before .before .before .before .before .before .before .before .before .before .args) in
-    own-outcome (s .sizes) (showsTriplet (s .cnd .now)) (filesRead (s .edg .now) (s .edx .now) (s .fac .now) (s .rng .now) (s .cnd .now) (s .cnx .now)) _ (sym ((c .before .before .outcome2) .given .1) ∙ (c .before .before .before .before .before .before .before .before .before .before .before .before .before .before .before .judge) .ensures)
+    let at-refuse-line-arg = c .before in
+    let at-named = at-refuse-line-arg .before .before in
+    let at-load-files = at-named .before .before .before .before .before .before .before .before .before .before .before .before in
+    let back27 = at-load-files .before .before .before .before .before .before .before .before .before .before .before .before in
+    let start = back27 .before .before .before .before .before in
+    let s = start .args in
+    let d = directory (s .edg .now) (s .edx .now) (s .fac .now) (s .rng .now) (s .cnd .now) (s .cnx .now) in
+    directory-refusal (s .sizes) d _ (sym (at-load-files .load-files .ensures .0) ∙ at-named .named .given .1) (s .text .now)
+    (at-refuse-line-arg .refuse-line-arg .given .0 .1) _ _ (c .refuse-line .ensures .0) (c .refuse-line .ensures .1)
 
 pub tell-tile-spec : {M : Type 1} → statement M
 tell-tile-spec =
     tie.close
     (tie.spec
-    slice-aggregate-judge
-    slice-aggregate-judge-2
-    slice-aggregate-judge-3
-    slice-aggregate-judge-4
-    slice-aggregate-judge-5
-    slice-aggregate-judge-6
-    slice-aggregate-judge-7
-    slice-aggregate-judge-8
-    slice-aggregate-judge-9
-    slice-aggregate-judge-10
-    slice-aggregate-judge-11
-    judge-requires
-    enum-known-outcome
-    say-counts-requires
-    say-rings-requires
-    say-steps-requires
-    enum-known-outcome-2
-    say-refused-requires
+    (λ c. search needs)
+    (λ c. search needs)
+    (λ c. search needs)
+    (λ c. search needs)
+    (λ c. search needs)
+    (λ c. search needs)
+    (λ c. search needs)
+    (λ c. search needs)
+    (λ c. search needs)
+    (λ c. search needs)
+    (λ c κs. search needs)
+    (λ c. search needs)
+    (λ c κs. search needs)
+    (λ c. search needs)
+    (λ c κs. search needs)
     returns
     returns-2)

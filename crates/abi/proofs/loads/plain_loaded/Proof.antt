@@ -5,23 +5,18 @@ use Rattle.abi.proofs.loads.plain_loaded.Reads as reads
 use Rattle.abi.proofs.loads.plain_loaded.Lts as lts
 use Rattle.abi.proofs.loads.refused_load.Reads as refused-load-reads
 
--- src/loads.rt:45:22
 enum-known-l : tie.Need-enum-known-l
 enum-known-l c = search needs
 
--- src/loads.rt:54:25
 enum-known-l-2 : tie.Need-enum-known-l-2
 enum-known-l-2 c = search needs
 
--- src/loads.rt:54:31
 refused-load-requires : tie.Need-refused-load-requires
 refused-load-requires c κs = search needs
 
--- src/loads.rt:41:1
 returns : tie.Need-returns
 returns c = simp (c .before .l .given .1)
 
--- src/loads.rt:41:1
 returns-2 : tie.Need-returns-2
 returns-2 c = simp (← c .refused-load .ensures, c .before .before .l2 .given .1)
 

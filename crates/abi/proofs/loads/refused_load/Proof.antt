@@ -5,11 +5,9 @@ use Rattle.abi.proofs.loads.refused_load.Reads as reads
 use Rattle.abi.proofs.loads.refused_load.Lts as lts
 use Rattle.abi.proofs.loads.table_number.Reads as table-number-reads
 
--- src/loads.rt:33:16
 table-number-requires : tie.Need-table-number-requires
 table-number-requires c κs = search needs
 
--- src/loads.rt:25:1
 returns : tie.Need-returns
 returns c = simp (← c .table-number .ensures)
 

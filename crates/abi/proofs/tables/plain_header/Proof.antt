@@ -5,23 +5,18 @@ use Rattle.abi.proofs.tables.plain_header.Reads as reads
 use Rattle.abi.proofs.tables.plain_header.Lts as lts
 use Rattle.abi.proofs.tables.letter_of.Reads as letter-of-reads
 
--- src/tables.rt:43:17
 enum-told : tie.Need-enum-told
 enum-told c = search needs
 
--- src/tables.rt:45:55
 letter-of-requires : tie.Need-letter-of-requires
 letter-of-requires c κs = search needs
 
--- src/tables.rt:47:25
 enum-known-answer : tie.Need-enum-known-answer
 enum-known-answer c = search needs
 
--- src/tables.rt:37:1
 returns : tie.Need-returns
 returns c = simp (← c .letter-of .ensures, c .before .before .enum-told .given .1)
 
--- src/tables.rt:37:1
 returns-2 : tie.Need-returns-2
 returns-2 c = simp (c .before .answer .given .1)
 

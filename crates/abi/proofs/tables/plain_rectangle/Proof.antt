@@ -7,39 +7,30 @@ use Rattle.abi.proofs.tables.double_rectangle.Reads as double-rectangle
 use Rattle.abi.proofs.tables.no_rectangle.Reads as no-rectangle-reads
 use Rattle.abi.proofs.tables.short_rectangle.Reads as short-rectangle-reads
 
--- src/tables.rt:174:22
 enum-known-f : tie.Need-enum-known-f
 enum-known-f c = search needs
 
--- src/tables.rt:174:28
 short-rectangle-requires : tie.Need-short-rectangle-requires
 short-rectangle-requires c κs = search needs
 
--- src/tables.rt:175:23
 enum-known-f-2 : tie.Need-enum-known-f-2
 enum-known-f-2 c = search needs
 
--- src/tables.rt:175:29
 double-rectangle-requires : tie.Need-double-rectangle-requires
 double-rectangle-requires c κs = search needs
 
--- src/tables.rt:176:24
 enum-known-f-3 : tie.Need-enum-known-f-3
 enum-known-f-3 c = search needs
 
--- src/tables.rt:176:30
 no-rectangle-requires : tie.Need-no-rectangle-requires
 no-rectangle-requires c κs = search needs
 
--- src/tables.rt:170:1
 returns : tie.Need-returns
 returns c = simp (← c .short-rectangle .ensures, c .before .before .f .given .1)
 
--- src/tables.rt:170:1
 returns-2 : tie.Need-returns-2
 returns-2 c = simp (← c .double-rectangle .ensures, c .before .before .f2 .given .1)
 
--- src/tables.rt:170:1
 returns-3 : tie.Need-returns-3
 returns-3 c = simp (← c .no-rectangle .ensures, c .before .before .f3 .given .1)
 

@@ -4,19 +4,15 @@ use Rattle.abi.proofs.tables.plain_row.Tie as tie
 use Rattle.abi.proofs.tables.plain_row.Reads as reads
 use Rattle.abi.proofs.tables.plain_row.Lts as lts
 
--- src/tables.rt:70:22
 enum-known-row : tie.Need-enum-known-row
 enum-known-row c = search needs
 
--- src/tables.rt:71:22
 enum-known-row-2 : tie.Need-enum-known-row-2
 enum-known-row-2 c = search needs
 
--- src/tables.rt:66:1
 returns : tie.Need-returns
 returns c = simp (c .before .row .given .1)
 
--- src/tables.rt:66:1
 returns-2 : tie.Need-returns-2
 returns-2 c = simp (c .before .row2 .given .1)
 

@@ -8,163 +8,123 @@ use Rattle.abi.proofs.tables.plain_value.Lts as lts
 use Rattle.abi.proofs.tables.part_of.Reads as part-of-reads
 use Rattle.abi.proofs.tables.pattern_of.Reads as pattern-of-reads
 
--- src/tables.rt:91:22
 enum-known-v : tie.Need-enum-known-v
 enum-known-v c = search needs
 
--- src/tables.rt:92:29
 enum-told : tie.Need-enum-told
 enum-told c = search needs
 
--- src/tables.rt:92:29
 part-of-requires : tie.Need-part-of-requires
 part-of-requires c κs = search needs
 
--- src/tables.rt:93:24
 enum-known-v-2 : tie.Need-enum-known-v-2
 enum-known-v-2 c = search needs
 
--- src/tables.rt:94:31
 enum-told-2 : tie.Need-enum-told-2
 enum-told-2 c = search needs
 
--- src/tables.rt:94:31
 part-of-requires-2 : tie.Need-part-of-requires-2
 part-of-requires-2 c κs = search needs
 
--- src/tables.rt:95:22
 enum-known-v-3 : tie.Need-enum-known-v-3
 enum-known-v-3 c = search needs
 
--- src/tables.rt:95:42
 cast-pattern-of : tie.Need-cast-pattern-of
 cast-pattern-of c = search needs
 
--- src/tables.rt:95:28
 pattern-of-requires : tie.Need-pattern-of-requires
 pattern-of-requires c κs = search needs
 
--- src/tables.rt:96:26
 enum-known-v-4 : tie.Need-enum-known-v-4
 enum-known-v-4 c = search needs
 
--- src/tables.rt:96:46
 cast-pattern-of-2 : tie.Need-cast-pattern-of-2
 cast-pattern-of-2 c = search needs
 
--- src/tables.rt:96:32
 pattern-of-requires-2 : tie.Need-pattern-of-requires-2
 pattern-of-requires-2 c κs = search needs
 
--- src/tables.rt:97:23
 enum-known-v-5 : tie.Need-enum-known-v-5
 enum-known-v-5 c = search needs
 
--- src/tables.rt:97:29
 pattern-of-requires-3 : tie.Need-pattern-of-requires-3
 pattern-of-requires-3 c κs = search needs
 
--- src/tables.rt:98:27
 enum-known-v-6 : tie.Need-enum-known-v-6
 enum-known-v-6 c = search needs
 
--- src/tables.rt:98:33
 pattern-of-requires-4 : tie.Need-pattern-of-requires-4
 pattern-of-requires-4 c κs = search needs
 
--- src/tables.rt:99:24
 enum-known-v-7 : tie.Need-enum-known-v-7
 enum-known-v-7 c = search needs
 
--- src/tables.rt:100:21
 enum-known-v-8 : tie.Need-enum-known-v-8
 enum-known-v-8 c = search needs
 
--- src/tables.rt:100:30
 part-of-requires-3 : tie.Need-part-of-requires-3
 part-of-requires-3 c κs = search needs
 
--- src/tables.rt:101:21
 enum-known-v-9 : tie.Need-enum-known-v-9
 enum-known-v-9 c = search needs
 
--- src/tables.rt:101:30
 part-of-requires-4 : tie.Need-part-of-requires-4
 part-of-requires-4 c κs = search needs
 
--- src/tables.rt:102:28
 enum-known-v-10 : tie.Need-enum-known-v-10
 enum-known-v-10 c = search needs
 
--- src/tables.rt:102:37
 part-of-requires-5 : tie.Need-part-of-requires-5
 part-of-requires-5 c κs = search needs
 
--- src/tables.rt:103:25
 enum-told-3 : tie.Need-enum-told-3
 enum-told-3 c = search needs
 
--- src/tables.rt:103:25
 part-of-requires-6 : tie.Need-part-of-requires-6
 part-of-requires-6 c κs = search needs
 
--- src/tables.rt:104:24
 enum-known-v-11 : tie.Need-enum-known-v-11
 enum-known-v-11 c = search needs
 
--- src/tables.rt:87:1
 returns : tie.Need-returns
 returns c = simp (c .before .v .given .1, toZ-ofZ {w = w16} {z = c .before .v .given .0 .0} (sfits-of {w = w16} (c .known-told .given .0 .1)))
 
--- src/tables.rt:87:1
 returns-2 : tie.Need-returns-2
 returns-2 c = simp (← c .part-of .ensures, c .before .enum-told .given .1)
 
--- src/tables.rt:87:1
 returns-3 : tie.Need-returns-3
 returns-3 c = simp (c .before .v2 .given .1, toZ-ofZ {w = w32} {z = c .before .v2 .given .0 .0} (sfits-of {w = w32} (c .known-told2 .given .0 .1)))
 
--- src/tables.rt:87:1
 returns-4 : tie.Need-returns-4
 returns-4 c = simp (← c .part-of2 .ensures, c .before .enum-told2 .given .1)
 
--- src/tables.rt:87:1
 returns-5 : tie.Need-returns-5
 returns-5 c = simp (← c .pattern-of .ensures, c .before .before .v3 .given .1)
 
--- src/tables.rt:87:1
 returns-6 : tie.Need-returns-6
 returns-6 c = simp (← c .pattern-of2 .ensures, c .before .before .v4 .given .1)
 
--- src/tables.rt:87:1
 returns-7 : tie.Need-returns-7
 returns-7 c = simp (← c .pattern-of3 .ensures, c .before .before .v5 .given .1)
 
--- src/tables.rt:87:1
 returns-8 : tie.Need-returns-8
 returns-8 c = simp (← c .pattern-of4 .ensures, c .before .before .v6 .given .1)
 
--- src/tables.rt:87:1
 returns-9 : tie.Need-returns-9
 returns-9 c = simp (c .before .v7 .given .1)
 
--- src/tables.rt:87:1
 returns-10 : tie.Need-returns-10
 returns-10 c = simp (← c .part-of3 .ensures, c .before .before .v8 .given .1)
 
--- src/tables.rt:87:1
 returns-11 : tie.Need-returns-11
 returns-11 c = simp (← c .part-of4 .ensures, c .before .before .v9 .given .1)
 
--- src/tables.rt:87:1
 returns-12 : tie.Need-returns-12
 returns-12 c = simp (← c .part-of5 .ensures, c .before .before .v10 .given .1)
 
--- src/tables.rt:87:1
 returns-13 : tie.Need-returns-13
 returns-13 c = simp (← c .part-of6 .ensures, c .before .enum-told3 .given .1)
 
--- src/tables.rt:87:1
 returns-14 : tie.Need-returns-14
 returns-14 c = simp (c .before .v11 .given .1)
 

@@ -6,15 +6,12 @@ use Rattle.abi.proofs.tables.vumbarete_header.Lts as lts
 use Rattle.abi.proofs.tables.plain_header.Reads as plain-header-reads
 use Rattle.header.proofs.read_header.Reads as read-header-reads
 
--- src/tables.rt:187:18
 read-header-requires : tie.Need-read-header-requires
 read-header-requires c κs = search needs
 
--- src/tables.rt:187:5
 plain-header-requires : tie.Need-plain-header-requires
 plain-header-requires c κs = search needs
 
--- src/tables.rt:183:1
 returns : tie.Need-returns
 returns c = simp (← c .plain-header .ensures, ← c .before .read-header .ensures)
 

@@ -6,15 +6,12 @@ use Rattle.abi.proofs.tables.vumbarete_open.Lts as lts
 use Rattle.abi.proofs.tables.plain_table.Reads as plain-table-reads
 use Rattle.opening.proofs.open_table.Reads as open-table-reads
 
--- src/tables.rt:203:17
 open-table-requires : tie.Need-open-table-requires
 open-table-requires c κs = search needs
 
--- src/tables.rt:203:5
 plain-table-requires : tie.Need-plain-table-requires
 plain-table-requires c κs = search needs
 
--- src/tables.rt:199:1
 returns : tie.Need-returns
 returns c = simp (← c .plain-table .ensures, ← c .before .open-table .ensures)
 

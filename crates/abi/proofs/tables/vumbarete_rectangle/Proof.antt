@@ -8,36 +8,28 @@ use Rattle.abi.proofs.tables.plain_rectangle.Reads as plain-rectangle-r
 use Rattle.rectangle.proofs.find_rectangle.Reads as find-rectangle-reads
 use Rattle.opening.proofs.open_table.Reads as open-table-reads
 
--- src/tables.rt:243:9
 open-table-requires : tie.Need-open-table-requires
 open-table-requires c κs = search needs
 
--- src/tables.rt:247:17
 enum-told : tie.Need-enum-told
 enum-told c = search needs
 
--- src/tables.rt:248:29
 find-rectangle-requires : tie.Need-find-rectangle-requires
 find-rectangle-requires c κs = search needs
 
--- src/tables.rt:248:13
 plain-rectangle-requires : tie.Need-plain-rectangle-requires
 plain-rectangle-requires c κs = search needs
 
--- src/tables.rt:250:25
 enum-known-answer : tie.Need-enum-known-answer
 enum-known-answer c = search needs
 
--- src/tables.rt:250:31
 plain-rectangle-requires-2 : tie.Need-plain-rectangle-requires-2
 plain-rectangle-requires-2 c κs = search needs
 
--- src/tables.rt:239:1
 returns : tie.Need-returns
 unfolding rectangleIn
 returns c = simp (← c .plain-rectangle .ensures, ← c .before .find-rectangle .ensures, ← c .before .before .before .before .before .open-table .ensures, c .before .before .before .enum-told .given .1)
 
--- src/tables.rt:239:1
 returns-2 : tie.Need-returns-2
 unfolding rectangleIn
 returns-2 c = simp (← c .plain-rectangle2 .ensures, ← c .before .before .before .before .open-table .ensures, c .before .before .answer .given .1)

@@ -8,36 +8,28 @@ use Rattle.abi.proofs.tables.plain_row.Reads as plain-row-reads
 use Rattle.opening.proofs.open_table.Reads as open-table-reads
 use Rattle.table.proofs.read_row.Reads as read-row-reads
 
--- src/tables.rt:211:9
 open-table-requires : tie.Need-open-table-requires
 open-table-requires c κs = search needs
 
--- src/tables.rt:215:17
 enum-told : tie.Need-enum-told
 enum-told c = search needs
 
--- src/tables.rt:216:23
 read-row-requires : tie.Need-read-row-requires
 read-row-requires c κs = search needs
 
--- src/tables.rt:216:13
 plain-row-requires : tie.Need-plain-row-requires
 plain-row-requires c κs = search needs
 
--- src/tables.rt:218:25
 enum-known-answer : tie.Need-enum-known-answer
 enum-known-answer c = search needs
 
--- src/tables.rt:218:31
 plain-row-requires-2 : tie.Need-plain-row-requires-2
 plain-row-requires-2 c κs = search needs
 
--- src/tables.rt:207:1
 returns : tie.Need-returns
 unfolding rowIn
 returns c = simp (← c .plain-row .ensures, ← c .before .read-row .ensures, ← c .before .before .before .before .before .open-table .ensures, c .before .before .before .enum-told .given .1)
 
--- src/tables.rt:207:1
 returns-2 : tie.Need-returns-2
 unfolding rowIn
 returns-2 c = simp (← c .plain-row2 .ensures, ← c .before .before .before .before .open-table .ensures, c .before .before .answer .given .1)

@@ -8,36 +8,28 @@ use Rattle.abi.proofs.tables.plain_value.Reads as plain-value-reads
 use Rattle.opening.proofs.open_table.Reads as open-table-reads
 use Rattle.table.proofs.read_value.Reads as read-value-reads
 
--- src/tables.rt:227:9
 open-table-requires : tie.Need-open-table-requires
 open-table-requires c κs = search needs
 
--- src/tables.rt:231:17
 enum-told : tie.Need-enum-told
 enum-told c = search needs
 
--- src/tables.rt:232:25
 read-value-requires : tie.Need-read-value-requires
 read-value-requires c κs = search needs
 
--- src/tables.rt:232:13
 plain-value-requires : tie.Need-plain-value-requires
 plain-value-requires c κs = search needs
 
--- src/tables.rt:234:25
 enum-known-answer : tie.Need-enum-known-answer
 enum-known-answer c = search needs
 
--- src/tables.rt:234:31
 plain-value-requires-2 : tie.Need-plain-value-requires-2
 plain-value-requires-2 c κs = search needs
 
--- src/tables.rt:223:1
 returns : tie.Need-returns
 unfolding valueIn
 returns c = simp (← c .plain-value .ensures, ← c .before .read-value .ensures, ← c .before .before .before .before .before .open-table .ensures, c .before .before .before .enum-told .given .1)
 
--- src/tables.rt:223:1
 returns-2 : tie.Need-returns-2
 unfolding valueIn
 returns-2 c = simp (← c .plain-value2 .ensures, ← c .before .before .before .before .open-table .ensures, c .before .before .answer .given .1)

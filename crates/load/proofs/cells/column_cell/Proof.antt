@@ -1,6 +1,6 @@
 use borrow.Author.Needs.{needs}
 use borrow.Author.Tests.{eq-eqb, ne-eqb}
-use Rattle.load.specs.CellPlans.{columnCell}
+use Rattle.load.specs.Serving.CellPlans.{columnCell}
 use Rattle.load.proofs.cells.column_cell.Statement.{statement}
 use Rattle.load.proofs.cells.column_cell.Tie as tie
 

@@ -1,6 +1,6 @@
 use borrow.Author.Needs.{needs}
 use borrow.Author.Tests.{eq-eqb, ne-eqb}
-use Rattle.load.specs.CellPlans.{edgeCells}
+use Rattle.load.specs.Serving.CellPlans.{edgeCells}
 use Rattle.load.proofs.cells.edge_cells.Statement.{statement}
 use Rattle.load.proofs.cells.edge_cells.Tie as tie
 

@@ -6,7 +6,7 @@ use Rattle.laws.specs.Buffer.{front}
 use Rattle.laws.proofs.BufferLaws.{front-next}
 use Rattle.field.specs.Fields.{letterOf}
 use Rattle.table.specs.Rows.{columnAt}
-use Rattle.load.specs.CellPlans.{lettersOf}
+use Rattle.load.specs.Serving.CellPlans.{lettersOf}
 use borrow.Author.Needs.{needs}
 use Rattle.load.proofs.cells.edge_letters.Statement.{statement}
 use Rattle.load.proofs.cells.edge_letters.Tie as tie

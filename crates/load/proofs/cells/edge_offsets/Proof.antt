@@ -5,7 +5,7 @@ use lib.ListN.{getD, replicate}
 use Rattle.laws.specs.Buffer.{front}
 use Rattle.laws.proofs.BufferLaws.{front-next}
 use Rattle.table.specs.Rows.{columnAt}
-use Rattle.load.specs.CellPlans.{offsetsOf}
+use Rattle.load.specs.Serving.CellPlans.{offsetsOf}
 use borrow.Author.Needs.{needs}
 use Rattle.load.proofs.cells.edge_offsets.Statement.{statement}
 use Rattle.load.proofs.cells.edge_offsets.Tie as tie

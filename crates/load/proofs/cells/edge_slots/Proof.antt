@@ -1,5 +1,5 @@
 use native.Mathlib.Omega.{arith}
-use Rattle.load.specs.CellPlans.{slotsOf}
+use Rattle.load.specs.Serving.CellPlans.{slotsOf}
 use borrow.Author.Needs.{needs}
 use Rattle.load.proofs.cells.edge_slots.Statement.{statement}
 use Rattle.load.proofs.cells.edge_slots.Tie as tie

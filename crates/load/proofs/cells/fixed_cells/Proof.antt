@@ -5,7 +5,7 @@ use lib.ListN.{getD, replicate}
 use Rattle.laws.specs.Buffer.{front}
 use Rattle.laws.proofs.BufferLaws.{front-next}
 use Rattle.cell.specs.Numbers.{numberBy}
-use Rattle.load.specs.CellPlans.{fixedCells}
+use Rattle.load.specs.Serving.CellPlans.{fixedCells}
 use borrow.Author.Needs.{needs}
 use Rattle.load.proofs.cells.fixed_cells.Statement.{statement}
 use Rattle.load.proofs.cells.fixed_cells.Tie as tie

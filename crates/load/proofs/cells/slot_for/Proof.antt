@@ -1,4 +1,4 @@
-use Rattle.load.specs.CellPlans.{slotFor}
+use Rattle.load.specs.Serving.CellPlans.{slotFor}
 use borrow.Author.Needs.{needs}
 use Rattle.load.proofs.cells.slot_for.Statement.{statement}
 use Rattle.load.proofs.cells.slot_for.Tie as tie

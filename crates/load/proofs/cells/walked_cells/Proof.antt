@@ -8,7 +8,7 @@ use Rattle.laws.proofs.BufferLaws.{front-next}
 use Rattle.table.specs.Rows.{keptFor}
 use Rattle.cell.specs.Numbers.{numberBy}
 use Rattle.load.proofs.CellLaws.{slot-small}
-use Rattle.load.specs.CellPlans.{walkedCells}
+use Rattle.load.specs.Serving.CellPlans.{walkedCells}
 use borrow.Author.Needs.{needs}
 use Rattle.load.proofs.cells.walked_cells.Statement.{statement}
 use Rattle.load.proofs.cells.walked_cells.Tie as tie

@@ -5,7 +5,7 @@ use Rattle.refusal.proofs.OrderLaws.{at-first, at-second, at-third, at-fourth, 
 use Rattle.refusal.specs.Order.{located}
 use Rattle.side.specs.Edges.{Edges, edges, sideCount}
 use Rattle.tile.specs.Check.{edgeSideRefusal}
-use Rattle.tile.specs.Stages.{edgeTests}
+use Rattle.tile.specs.Serving.Stages.{edgeTests}
 use Rattle.tile.proofs.OwnerLaws.{tally-zero}
 use borrow.Author.Needs.{needs}
 use Rattle.tile.proofs.columns.judge_edges.Statement.{statement}

@@ -9,7 +9,7 @@ use Rattle.refusal.specs.declared.Refusal.{Refusal}
 use Rattle.refusal.specs.Order.{located}
 use Rattle.side.specs.Successor.{after}
 use Rattle.side.specs.Edges.{edges, sideCount}
-use Rattle.tile.specs.Stages.{startOf, ownerTests}
+use Rattle.tile.specs.Serving.Stages.{startOf, ownerTests}
 use Rattle.tile.proofs.OwnerLaws.{all-painted}
 use borrow.Author.Needs.{needs}
 use Rattle.tile.proofs.owners.judge_owners.Statement.{statement}

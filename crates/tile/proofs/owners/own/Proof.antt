@@ -12,7 +12,7 @@ use Rattle.laws.specs.Orbit.{entry}
 use Rattle.laws.specs.Lowest.{None}
 use Rattle.side.proofs.SideLaws.{after-zero}
 use Rattle.side.specs.Successor.{after}
-use Rattle.tile.specs.Stages.{startOf}
+use Rattle.tile.specs.Serving.Stages.{startOf}
 use Rattle.tile.proofs.OwnerLaws.{Painting, painting, start-is, start-within, stopped-at, stopped-last}
 use Rattle.side.specs.Edges.{Edges, sideCount, edges as columns-of}
 use borrow.Author.Needs.{needs}

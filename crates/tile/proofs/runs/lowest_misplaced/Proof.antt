@@ -7,7 +7,7 @@ use lib.ListN.{length}
 use Rattle.laws.proofs.LeastLaws.{least-next}
 use Rattle.laws.specs.Lowest.{least}
 use Rattle.laws.specs.Orbit.{entry}
-use Rattle.tile.specs.Check.{beginsElsewhere}
+use Rattle.tile.specs.Serving.Stages.{beginsElsewhere}
 use borrow.Author.Needs.{needs}
 use Rattle.tile.proofs.runs.lowest_misplaced.Statement.{statement}
 use Rattle.tile.proofs.runs.lowest_misplaced.Tie as tie
@@ -36,7 +36,12 @@ loop-less c = search needs
 loop-again : tie.Need-loop-again Inv-loop μ-loop
 loop-again c =
     let a = (c .before .before .before .before .before .before .args) in
-    (omega arith, least-next (beginsElsewhere (a .ring-ptr .now) (a .fac-id .now)) (entry (a .fac-id .now)) ((c .before .before .before .loop) .i) ((c .before .before .before .loop) .low) ((c .before .misplaced) .result) ((c .lesser-of) .result) ((c .before .before .before .loop) .inv .1) ((c .before .misplaced) .ensures) ((c .lesser-of) .ensures))
+    let here = c .before .before .before .loop in
+    let face = c .before .misplaced in (
+      omega arith,
+      least-next (beginsElsewhere (a .ring-ptr .now) (a .fac-id .now)) (entry (a .fac-id .now)) (here .i) (here .low)
+          (face .result) (c .lesser-of .result) (here .inv .1) (face .ensures) (c .lesser-of .ensures),
+    )
 
 returns : tie.Need-returns Inv-loop μ-loop
 returns c =

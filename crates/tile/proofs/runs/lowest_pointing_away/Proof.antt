@@ -6,7 +6,7 @@ use lib.ListN.{length}
 use Rattle.laws.proofs.LowestLaws.{none-start, none-next, lowest-next, lowest-ended}
 use Rattle.laws.specs.Lowest.{None}
 use Rattle.tile.proofs.RunLaws.{points-away, points-home}
-use Rattle.tile.specs.Check.{pointsAway}
+use Rattle.tile.specs.Serving.Stages.{pointsAway}
 use borrow.Author.Needs.{needs}
 use Rattle.tile.proofs.runs.lowest_pointing_away.Statement.{statement}
 use Rattle.tile.proofs.runs.lowest_pointing_away.Tie as tie
@@ -44,8 +44,11 @@ add-result c = search needs
 returns : tie.Need-returns Inv-loop μ-loop
 returns c =
     let a = (c .before .before .before .before .before .before .before .args) in
-    lowest-next (pointsAway (a .ring-ptr .now) (a .fac-id .now)) (length (a .ring-ptr .now)) ((c .before .before .before .before .loop) .i) ((c .before .before .before .loop-test) .taken) ((c .before .before .before .before .loop) .inv .1)
-    (points-away (a .ring-ptr .now) (a .fac-id .now) ((c .before .before .before .before .loop) .i) ((c .before .row) .result) ((c .before .row) .ensures) ((c .if1) .taken))
+    let here = c .before .before .before .before .loop in
+    let row = c .before .row in
+    lowest-next (pointsAway (a .ring-ptr .now) (a .fac-id .now)) (length (a .ring-ptr .now)) (here .i)
+    (c .before .before .before .loop-test .taken) (here .inv .1)
+    (points-away (a .ring-ptr .now) (a .fac-id .now) (here .i) (row .result) (row .ensures) (c .if1 .taken))
 
 add-i : tie.Need-add-i Inv-loop μ-loop
 add-i c = search needs
@@ -56,12 +59,19 @@ loop-less c = search needs
 loop-again : tie.Need-loop-again Inv-loop μ-loop
 loop-again c =
     let a = (c .before .before .before .before .before .before .before .args) in
-    (omega arith, none-next (pointsAway (a .ring-ptr .now) (a .fac-id .now)) ((c .before .before .before .before .loop) .i) ((c .before .before .before .before .loop) .inv .1) (points-home (a .ring-ptr .now) (a .fac-id .now) ((c .before .before .before .before .loop) .i) ((c .before .row) .result) ((c .before .row) .ensures) ((c .if1) .left)))
+    let here = c .before .before .before .before .loop in
+    let row = c .before .row in (
+      omega arith,
+      none-next (pointsAway (a .ring-ptr .now) (a .fac-id .now)) (here .i) (here .inv .1)
+          (points-home (a .ring-ptr .now) (a .fac-id .now) (here .i) (row .result) (row .ensures) (c .if1 .left)),
+    )
 
 returns-2 : tie.Need-returns-2 Inv-loop μ-loop
 returns-2 c =
     let a = (c .before .before .before .before .args) in
-    lowest-ended (pointsAway (a .ring-ptr .now) (a .fac-id .now)) (length (a .ring-ptr .now)) ((c .before .loop) .i) ((c .loop-test) .left) ((c .before .loop) .inv .0) ((c .before .loop) .inv .1)
+    let here = c .before .loop in
+    lowest-ended (pointsAway (a .ring-ptr .now) (a .fac-id .now)) (length (a .ring-ptr .now)) (here .i)
+    (c .loop-test .left) (here .inv .0) (here .inv .1)
 
 pub lowest-pointing-away-spec : {M : Type 1} → statement M
 lowest-pointing-away-spec =

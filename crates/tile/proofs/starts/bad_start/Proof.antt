@@ -9,7 +9,7 @@ use lib.ListN.{length, getD}
 use Rattle.laws.proofs.LowestLaws.{none-start, none-next, lowest-next, lowest-ended}
 use Rattle.laws.specs.Lowest.{None}
 use Rattle.laws.specs.Orbit.{entry}
-use Rattle.tile.specs.Stages.{startMissing}
+use Rattle.tile.specs.Serving.Stages.{startMissing}
 use borrow.Author.Needs.{needs}
 use Rattle.tile.proofs.starts.bad_start.Statement.{statement}
 use Rattle.tile.proofs.starts.bad_start.Tie as tie

@@ -2,7 +2,7 @@
 -- Assumes nothing.
 use borrow.Author.Needs.{needs}
 use borrow.Author.Tests.{eq-eqb, ne-eqb}
-use Rattle.tile.specs.Stages.{startMissing}
+use Rattle.tile.specs.Serving.Stages.{startMissing}
 use Rattle.tile.proofs.starts.has_no_start.Statement.{statement}
 use Rattle.tile.proofs.starts.has_no_start.Tie as tie
 

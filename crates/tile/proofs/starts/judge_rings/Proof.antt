@@ -5,7 +5,7 @@ use native.Mathlib.Omega.{arith}
 use Rattle.refusal.specs.declared.Refusal.{Refusal}
 use Rattle.refusal.proofs.OrderLaws.{at-first, at-second, at-third, at-fourth, located-ends, located-passes}
 use Rattle.refusal.specs.Order.{located}
-use Rattle.tile.specs.Stages.{ringTests}
+use Rattle.tile.specs.Serving.Stages.{ringTests}
 use borrow.Author.Needs.{needs}
 use Rattle.tile.proofs.starts.judge_rings.Statement.{statement}
 use Rattle.tile.proofs.starts.judge_rings.Tie as tie

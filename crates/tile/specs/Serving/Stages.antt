@@ -1,7 +1,7 @@
 -- The list of tests in parts, each over the columns that it needs: the list of `Check` is these parts joined.
-use mathlib.Core.Bool.{Bool, cond, not, _&&_}
+use mathlib.Core.Bool.{Bool, cond, not, _&&_, _||_}
 use mathlib.Core.List.{List, [], _∷_, _++_}
-use Prim.Native.Nat.{ℕ, zero, suc}
+use Prim.Native.Nat.{ℕ, zero, suc, pred}
 use lib.Dec.{eqb, ltb}
 use lib.ListN.{length}
 use Rattle.laws.specs.Lowest.{lowest}
@@ -43,6 +43,19 @@ ringTests startNode endNode rightFace leftFace ringPtr facId startEdge firstEdge
     ∷ located 28 (lowest (runBroken ringPtr facId) (length ringPtr))
     ∷ located 29 (lowest (λ r. startMissing (length startNode) (length ringPtr) (length facId) rightFace leftFace (entry facId r) (entry startEdge r)) (length facId))
     ∷ []
+
+-- 28 in linear time, without scratch. Ring row r begins a run of rows of one face, and the face's ring_ptr names another row
+abbrev pub beginsElsewhere : List ℕ → List ℕ → ℕ → Bool
+beginsElsewhere ringPtr facId r = not (eqb (entry facId (pred r)) (entry facId r)) && not (eqb (entry ringPtr (entry facId r)) r)
+
+-- the row that the ring_ptr of the face f names is not the face's
+abbrev pub pointsAway : List ℕ → List ℕ → ℕ → Bool
+pointsAway ringPtr facId f = not (eqb (entry facId (entry ringPtr f)) f)
+
+-- either of the two: for each face it is `runBroken` (proofs/RunLaws.antt)
+abbrev pub runNotAtPointer : List ℕ → List ℕ → ℕ → Bool
+runNotAtPointer ringPtr facId f =
+    pointsAway ringPtr facId f || ltb 0 (lowest (λ r. eqb (entry facId r) f && beginsElsewhere ringPtr facId r) (length facId))
 
 -- the start side of ring row r
 unfoldable pub startOf : Edges → List ℕ → List ℕ → ℕ → ℕ
