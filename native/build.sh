@@ -1,21 +1,10 @@
 # Sourced by native/run and native/bench: the archive proved and built, C compiled and linked with it, for the processor at hand. The
 # archive is x86-64: on such a machine all is native; elsewhere C is cross-compiled by clang, linked against the kit's C library and
 # run under the kit's emulator, where only ratios mean something.
-kit=$(dirname "$(dirname "$(rt doc)")")
-out=target/native
-mkdir -p "$out"
-
-need() { # COMMAND PACKAGE
-    command -v "$1" >/dev/null && return
-    echo "native: installing $2"
-    apt-get install -y "$2" >/dev/null
-}
+. native/kit.sh
 
 echo "native: proving and building the archive"
-rt staticlib abi >"$out/staticlib.log" 2>&1 || {
-    tail -20 "$out/staticlib.log"
-    exit 1
-}
+prove staticlib abi
 
 if [ "$(uname -m)" = x86_64 ]; then
     need gcc gcc
@@ -27,8 +16,6 @@ if [ "$(uname -m)" = x86_64 ]; then
     run_built() { name=$1; shift; "$out/$name" "$@"; }
 else
     need clang clang
-    tools=$kit/on/$(uname -m)/toolchain
-    lib=$tools/lib
     echo "native: $(uname -m), cross-compiled and run under the emulator: only ratios count"
     build() {
         flags="--target=x86_64-linux-gnu -std=c11 -D_POSIX_C_SOURCE=199309L -fPIC -Wall -Wextra"

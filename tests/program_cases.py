@@ -35,8 +35,11 @@ def run(folder, reads=None, user=None):
     """What the program writes in a folder; with `reads` under the library that makes reads fail."""
     command = runner + (["--preload", failing_read] if reads is not None else []) + [program]
     env = os.environ | {f"READ_{k.upper()}": str(v) for k, v in (reads or {}).items()}
-    done = subprocess.run(command, cwd=folder, env=env, stdin=subprocess.DEVNULL, capture_output=True, timeout=60,
-                          **({"user": user, "group": user, "extra_groups": []} if user else {}))
+    as_user = {"user": user, "group": user, "extra_groups": []} if user else {}
+    try:
+        done = subprocess.run(command, cwd=folder, env=env, stdin=subprocess.DEVNULL, capture_output=True, timeout=60, **as_user)
+    except subprocess.TimeoutExpired:
+        return "", "it did not end within a minute", None
     return done.stdout.decode(errors="replace"), done.stderr.decode(errors="replace"), done.returncode
 
 
@@ -194,6 +197,10 @@ wrong = struct.pack(">II", 1, 0)
 case("a wrong cnx, no K in cnd", MJ21 | {"cnx": wrong}, MJ21_SAYS)
 case("a wrong cnx, K in cnd", WITH_K | {"cnx": wrong}, "REFUSE cnx 8 0\n")
 case("reads of cnx fail, no K in cnd", MJ21 | {"cnx": wrong}, MJ21_SAYS, file="cnx", errno=errno.EIO, **{"from": 1})
+with tempfile.TemporaryDirectory() as folder:  # to open a pipe that nobody writes to would take for ever
+    place = laid(MJ21, folder)
+    os.mkfifo(place / "cnx")
+    expect("a pipe as cnx, no K in cnd", MJ21_SAYS, run(place))
 case("cnd refused, cnx too large", tile("refuse-cnd-3") | {"cnx": bytes(MOST_BYTES + 1)}, said("refuse-cnd-3"))
 
 # --- sizes: a table of 65,536 bytes is judged as any other, and an index of so many has not 8 + 8n
@@ -231,7 +238,8 @@ before_third = {"file": "rng", "part": len(MJ21["rng"])}
 case("a third ring", third, "REFUSE rng 30 3\n")
 case("a third ring, two reads", third, "REFUSE rng 30 3\n", **before_third)
 case("a third ring, a read fails before it", third, "REFUSE rng 1 0\n", **before_third, errno=errno.EIO, **{"from": 2})
-case("a third ring, reads interrupted before it without end", third, "REFUSE rng 1 0\n", **before_third, errno=errno.EINTR, times=WITHOUT_END, **{"from": 2})
+case("a third ring, reads interrupted before it without end", third, "REFUSE rng 1 0\n", **before_third, errno=errno.EINTR,
+     times=WITHOUT_END, **{"from": 2})
 case("a third ring, a read interrupted before it", third, "REFUSE rng 30 3\n", **before_third, errno=errno.EINTR, **{"from": 2})
 # the byte that shows a file too large cannot be read
 for f in ["edg", "fac", "rng", "cnd"]:

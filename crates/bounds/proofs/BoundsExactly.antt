@@ -1,6 +1,6 @@
 -- WHAT THE BOUNDS ARE, once over the width: accepted exactly when there is a coordinate and every x and y is finite; then
 -- the rectangle and no other; refused with 12 at the lowest coordinate with x or y not finite, or at 0 for none; and with
--- nothing else. Assumes nothing.
+-- nothing else.
 use mathlib.Core.Path.{_≡_, refl, sym, ap, subst, _∙_}
 use mathlib.Core.Logic.{_↔_, _⊎_, inl, inr, ⊎-elim}
 use mathlib.Core.Bool.{Bool, true, false, not, _&&_, true≢false}

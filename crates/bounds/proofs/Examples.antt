@@ -1,4 +1,4 @@
--- Worked examples as one table, computed. Assumes nothing.
+-- Worked examples as one table, computed.
 use mathlib.Core.Path.{_≡_, refl}
 use mathlib.Core.Bool.{true, false}
 use mathlib.Core.List.{List, [], _∷_}

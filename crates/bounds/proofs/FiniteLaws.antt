@@ -1,5 +1,5 @@
 -- A pattern without its sign says whether the float is finite: below the infinity's it is, from there on it is not. Over
--- the format. Assumes nothing.
+-- the format.
 use mathlib.Core.Path.{_≡_, refl}
 use mathlib.Core.Bool.{Bool, true, false, not, cond}
 use Prim.Native.Nat.{ℕ, zero, suc, _+_, _-_, _*_, _/_, _%_, _≤_, _<_}

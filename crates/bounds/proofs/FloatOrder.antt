@@ -1,5 +1,4 @@
 -- `lt` orders the finite floats, with a tie only between equal numbers. Stated of the values, and so at each width.
--- Assumes nothing.
 use mathlib.Core.Path.{_≡_, refl, sym, ap, ap₂, _∙_}
 use mathlib.Core.Logic.{inl, inr}
 use mathlib.Core.Bool.{Bool, true, false, false≢true}

@@ -1,5 +1,5 @@
 -- No second answer fits: two answers of the code that mean the same bounds are the same; and the bits of a bound are the
--- coordinate's own, since a finite float has one pattern. Assumes nothing.
+-- coordinate's own, since a finite float has one pattern.
 use mathlib.Core.Path.{_≡_, refl, sym}
 use mathlib.Core.Bool.{true, not, false≢true}
 use mathlib.Core.List.{List}

@@ -1,5 +1,5 @@
 -- What the code that reads coordinate after coordinate needs, over the width: where a coordinate lies, what a first and a
--- further one do to the rectangle, and how the reading ends. Assumes nothing.
+-- further one do to the rectangle, and how the reading ends.
 use mathlib.Core.Path.{_≡_, refl, sym, _∙_}
 use mathlib.Core.Bool.{Bool, true, false, not, _&&_, cond}
 use mathlib.Core.List.{List}
@@ -19,7 +19,9 @@ use Rattle.number.specs.declared.Order.{Order}
 use Rattle.number.specs.Bytes.{number}
 use Rattle.bounds.specs.declared.Parts.{Parts}
 use Rattle.bounds.specs.declared.Parts.the-variants.{Two, Three}
-use Rattle.bounds.specs.Bounds.{Rectangle, within, refused, at, notFinite, partCount, partBytes, Coordinates, coordinates, count, partAt, xOf, yOf, unfit, rectangleOf, notFiniteOrNone, boundsOf, point, pointAt, around, extended, Reached}
+use Rattle.bounds.specs.Bounds.{Rectangle, within, refused, at, notFinite, partCount, partBytes, Coordinates, coordinates, count}
+use Rattle.bounds.specs.Bounds.{partAt, xOf, yOf, unfit, rectangleOf, notFiniteOrNone, boundsOf, point, pointAt, around, extended}
+use Rattle.bounds.specs.Bounds.{Reached}
 use Rattle.bounds.proofs.FiniteLaws.{finite-below, finite-above}
 
 -- coordinate i + 1 lies inside the bytes

@@ -1,4 +1,4 @@
--- The number by a type's letter is the number by its type. Assumes nothing.
+-- The number by a type's letter is the number by its type.
 use mathlib.Core.Path.{_≡_, refl}
 use mathlib.Core.List.{List}
 use Prim.Native.Nat.{ℕ}

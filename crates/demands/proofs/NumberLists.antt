@@ -1,4 +1,4 @@
--- Numbers of a list, by a test that computes. Assumes nothing.
+-- Numbers of a list, by a test that computes.
 use mathlib.Core.Path.{_≡_, sym, _∙_}
 use mathlib.Core.Logic.{inl, inr}
 use mathlib.Core.Bool.{Bool, true, false, cond, true≢false}

@@ -1,4 +1,12 @@
--- Every operation refuses with a number that document 01's table names for it. Assumes nothing.
+-- Every operation refuses with a number that document 01's table names for it.
+--
+-- The plan. Each operation has its list of numbers (`ofWave` to `ofWalk`, in specs/Numbers.antt). To be in a list is a test that computes:
+-- `one-of` puts a number into a list, `also` carries it into a list that has all of the first, and `refl` answers both tests. Two ways lead
+-- there. Where a theorem says exactly when an operation refuses, the number is read off the test that failed, one line for each:
+-- `written-named`, `header-named`, `opening-named`, `load-named`, `check-named`. Where the definition chooses between answers, the property
+-- goes through its branches: `either`, `if-refused` and `either-first` for the judgement of a row (`row-listed`), `either-value` with the
+-- cases of the field type for a value (`value-numbers`), `either-walk` for a walk (`walk-numbers`), in which a move that cannot be made has
+-- 22 to 25, by induction on the moves left (`stuck-named`). A directory's load has 15 by size or the number of its load (`load-named-by`).
 use mathlib.Core.Path.{_≡_, refl, sym, ap, subst, _∙_}
 use mathlib.Core.Logic.{inl, inr, ⊎-elim}
 use mathlib.Core.Bool.{Bool, true, false, cond, not}

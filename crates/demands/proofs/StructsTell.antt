@@ -1,7 +1,10 @@
--- The structs of the operations for C tell their refusals, one to one. Assumes nothing.
+-- The structs of the operations for C tell their refusals, one to one.
 --
--- Each kind of answer either refuses, and its struct is that refusal's, or does not, and its number is 0 (`Told`, by its cases). No
--- number of an operation is 0, and a struct of a refusal has its number and place in it: so nothing is told twice or not at all (`tells`).
+-- The plan. Each kind of answer either refuses, and its struct is that refusal's, or does not, and its number is 0 (`Told`, by its cases:
+-- `told-height` to `told-steps`). No number of an operation is 0, and a struct of a refusal has its number and place in it, a load's also
+-- its table, by a number that names one table (`finding-told`): so nothing is told twice or not at all. That is shown once, over any kind
+-- of answer (`tells`), and each field of `for-c` is a use of it with the operation's numbers from NumbersNamed. A question about rows opens
+-- its table first, so its numbers are the opening's and its own (`row-under`, `value-under`, `rectangle-under`, `rows-under`).
 use mathlib.Core.Path.{_≡_, refl, sym, ap, subst, _∙_}
 use mathlib.Core.Logic.{⊎-elim}
 use mathlib.Core.Bool.{true, false, cond}

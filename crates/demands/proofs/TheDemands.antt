@@ -1,5 +1,12 @@
 -- THE THREE DEMANDS HOLD. The statements stand in full in specs/Demand1.antt, Demand2.antt and Demand3.antt; here the theorem that answers
 -- each is cited.
+--
+-- The plan. Demand 1 is NumbersNamed (which numbers), BuffersKept (which buffers) and StructsTell (the structs for C), field by field.
+-- Demand 2 cites the theorems in words of each crate. Demand 3 of a tile is `demand3` of crate `tile`; of a directory it takes some steps.
+-- An accepted directory has no file too large, loads with its counts, and its tile has all facts (`in-words`); so the load answered the
+-- counts (`load-answered`), the check accepts that tile, `demand3` speaks of its walks, and the sum of 2E is 2 times the counted edges
+-- (`walked`). The program's own marks and output have room for two sides to each of the rows that it takes (`edges-few`), and no ring's
+-- list is longer than 2E (`list-few`): so every walk is answered, and the text has the lists' lengths and the sum (`text-told`).
 use mathlib.Core.Path.{_≡_, refl, sym, ap, _∙_}
 use mathlib.Core.Logic.{_↔_}
 use mathlib.Core.Bool.{true}

@@ -36,7 +36,8 @@ use Rattle.directory.specs.declared.Outcome.{Outcome}
 use Rattle.directory.specs.declared.Outcome.the-variants.{Accepted, Refused}
 use Rattle.directory.specs.Columns.{Columns, columns, held, short, shortOf}
 use Rattle.directory.specs.Files.{Directory, cnxRead, filesRead, sizesTaken}
-use Rattle.directory.specs.Outcome.{named, column, tileSaid, loadedAs, unlessAtFault, loadedOf, columnAfter, columnsAfter, checkedAs, checkedOf, marksChecked, outcomeOf}
+use Rattle.directory.specs.Outcome.{named, column, tileSaid, loadedAs, unlessAtFault, loadedOf, columnAfter, columnsAfter, checkedAs}
+use Rattle.directory.specs.Outcome.{checkedOf, marksChecked, outcomeOf}
 
 -- the index of cnd as it is lent
 pub files-read : (d : Directory) (x : List ℕ) (k : Bool) → k ≡ cnxRead d → x ≡ cond k (d .cnx) [] → files (d .edg) (d .edx) (d .fac) [] (d .rng) [] (d .cnd) x ≡ filesRead d

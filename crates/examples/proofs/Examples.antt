@@ -1,5 +1,4 @@
 -- P1 to P11 of document 01 hold: every case of the table, computed from the definitions that the operations' contracts are equations with.
--- Assumes nothing.
 use mathlib.Core.Path.{refl}
 use lib.Dec.{eqb·suc-zero}
 use lib.ListN.{length}

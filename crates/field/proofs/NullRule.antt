@@ -1,4 +1,4 @@
--- The patterns that are null are those of the numbers that document 01 names. Assumes nothing.
+-- The patterns that are null are those of the numbers that document 01 names.
 use mathlib.Core.Path.{_≡_, refl}
 use mathlib.Core.Bool.{Bool, true, false, cond}
 use mathlib.Core.Logic.{_↔_}

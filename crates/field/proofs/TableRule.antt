@@ -1,4 +1,4 @@
--- Every width, null and count rule of document 01's table, by one test that is computed over all bytes. Assumes nothing.
+-- Every width, null and count rule of document 01's table, by one test that is computed over all bytes.
 use mathlib.Core.Path.{_≡_, refl, sym, ap, _∙_}
 use mathlib.Core.Bool.{Bool, true, false, not, _&&_, Bool·beq, false≢true}
 use mathlib.Core.List.{List, [], _∷_}
@@ -14,7 +14,8 @@ use Rattle.laws.proofs.TestLaws.{clash}
 use Rattle.field.specs.Fields.{letterOf, widthOf, starOf, nullOf, types, find, typeOf, inRange, countRight, mostCount}
 use Rattle.field.specs.Table.{Count, numberOrStar, one, Row, table, elementWidth, starAllowed, RightCount, Agrees, Entry, listed, unlisted, entryIn, Right}
 use Rattle.field.specs.declared.FieldType.{FieldType}
-use Rattle.field.specs.declared.FieldType.the-variants.{Text, Latin, Float, Double, Short, Integer, ShortPair, ShortTriple, DoublePair, DoubleTriple, Date, NullField, Triplet}
+use Rattle.field.specs.declared.FieldType.the-variants.{Text, Latin, Float, Double, Short, Integer, ShortPair, ShortTriple, DoublePair}
+use Rattle.field.specs.declared.FieldType.the-variants.{DoubleTriple, Date, NullField, Triplet}
 use Rattle.field.specs.declared.NullValue.{NullValue}
 use Rattle.field.specs.declared.NullValue.the-variants.{Nothing, Number, NotANumber}
 use Rattle.field.specs.declared.Lookup.{Lookup}

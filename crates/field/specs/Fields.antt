@@ -6,7 +6,8 @@ use lib.IntN.{negsuc}
 use lib.Dec.{eqb, leb}
 use Rattle.field.specs.Letters.{letterT, letterL, letterF, letterR, letterS, letterI, letterC, letterZ, letterB, letterY, letterD, letterX, letterK}
 use Rattle.field.specs.declared.FieldType.{FieldType}
-use Rattle.field.specs.declared.FieldType.the-variants.{Text, Latin, Float, Double, Short, Integer, ShortPair, ShortTriple, DoublePair, DoubleTriple, Date, NullField, Triplet}
+use Rattle.field.specs.declared.FieldType.the-variants.{Text, Latin, Float, Double, Short, Integer, ShortPair, ShortTriple, DoublePair}
+use Rattle.field.specs.declared.FieldType.the-variants.{DoubleTriple, Date, NullField, Triplet}
 use Rattle.field.specs.declared.NullValue.{NullValue}
 use Rattle.field.specs.declared.NullValue.the-variants.{Nothing, Number, NotANumber}
 use Rattle.field.specs.declared.Lookup.{Lookup}

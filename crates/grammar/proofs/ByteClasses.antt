@@ -1,4 +1,4 @@
--- The machine's test of a byte says what the paper says of the bytes of a field. Assumes nothing.
+-- The machine's test of a byte says what the paper says of the bytes of a field.
 use mathlib.Core.Path.{_≡_}
 use mathlib.Core.Bool.{true, false, cond, not}
 use mathlib.Core.Logic.{_⊎_, inl, inr, _↔_}
@@ -111,8 +111,8 @@ pub takes-exactly : (f : Field) (n b : ℕ) → (takes f n b ≡ true) ↔ ((n <
 unfolding takes
 takes-exactly f n b = (
   (λ e.
-  let h = both-true (ltb n (rule f .most)) (allowed (rule f .holds) n b) e in
-  (ltb-true n (rule f .most) (h .0), of-allowed (rule f .holds) n b (h .1))),
+      let h = both-true (ltb n (rule f .most)) (allowed (rule f .holds) n b) e in
+      (ltb-true n (rule f .most) (h .0), of-allowed (rule f .holds) n b (h .1))),
   (λ h. simp (lt-ltb n (rule f .most) (h .0), to-allowed (rule f .holds) n b (h .1))),
 )
 

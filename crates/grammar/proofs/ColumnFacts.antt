@@ -1,4 +1,4 @@
--- Which separators the fields of a well-formed reading lack: what closes a field does not stand in it. Assumes nothing.
+-- Which separators the fields of a well-formed reading lack: what closes a field does not stand in it.
 use mathlib.Core.Path.{_≡_, sym, _∙_}
 use mathlib.Core.List.{List, [], _∷_, _++_}
 use mathlib.Core.Logic.{inl, inr}
@@ -6,7 +6,8 @@ use Prim.Native.Nat.{ℕ, zero, suc, _≤_}
 use native.Mathlib.Omega.{arith}
 use lib.ListN.{length, getD}
 use Rattle.laws.proofs.SeparatorLaws.{Lacks}
-use Rattle.grammar.specs.Words.{semicolon, comma, equals, star, Mark, absent, letterL, letterM, Column, Reading, printedMark, printedColumn, Text, Count, WellFormedColumn, WellFormed}
+use Rattle.grammar.specs.Words.{semicolon, comma, equals, star, Mark, absent, letterL, letterM, Column, Reading, printedMark}
+use Rattle.grammar.specs.Words.{printedColumn, Text, Count, WellFormedColumn, WellFormed}
 use Rattle.grammar.proofs.PrintIsRead.{column-then}
 
 text-lacks : (b : ℕ) {least most : ℕ} {Allowed : ℕ → Type 0} (w : List ℕ) → ((x : ℕ) → Allowed x → x ≡ b → ⊥) → Text least most Allowed w → Lacks b w

@@ -1,5 +1,4 @@
 -- Examples P1 and P2 of document 01, as texts: the ring table's header has three columns, and a byte less is refused at its end.
--- Assumes nothing.
 use mathlib.Core.Path.{_≡_, refl}
 use mathlib.Core.List.{List, [], _∷_}
 use Prim.Native.Nat.{ℕ}

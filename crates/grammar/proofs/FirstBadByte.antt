@@ -1,5 +1,5 @@
 -- A scan that refuses gives the first byte that cannot continue, or the text's length where the text ends too soon; and where
--- there is such a byte or end, the scan gives it. Assumes nothing.
+-- there is such a byte or end, the scan gives it.
 use mathlib.Core.Path.{_≡_, refl, sym, ap, subst, _∙_}
 use mathlib.Core.List.{List, [], _++_, append-assoc, append-nil}
 use mathlib.Core.Logic.{_⊎_, inl, inr, _↔_, by-cases}

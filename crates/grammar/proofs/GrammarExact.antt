@@ -1,4 +1,4 @@
--- A scan accepts exactly the texts of the grammar, and counts their columns. Assumes nothing.
+-- A scan accepts exactly the texts of the grammar, and counts their columns.
 use mathlib.Core.Path.{_≡_, refl, sym}
 use mathlib.Core.List.{List}
 use mathlib.Core.Logic.{_↔_}
@@ -40,10 +40,10 @@ pub grammar-exact : (n : ℕ) (s : List ℕ) → (scanOf s ≡ Columns n) ↔ ((
 unfolding scanOf
 grammar-exact n s = (
   (λ e.
-  let r = text-out (Final n) (λ st f. f .0) s (accepted-out n s (length s) (run machine s start 0) refl e) in
-  (r .0, r .1, r .2 .1)),
+      let r = text-out (Final n) (λ st f. f .0) s (accepted-out n s (length s) (run machine s start 0) refl e) in
+      (r .0, r .1, r .2 .1)),
   (λ r.
-  accepted-in n s (rw (sym (r .1 .print)) (text-in (Final n) (r .0) (r .1 .well-formed) (refl, r .2)))),
+      accepted-in n s (rw (sym (r .1 .print)) (text-in (Final n) (r .0) (r .1 .well-formed) (refl, r .2)))),
 )
 
 -- a text is accepted exactly when it is in the grammar

@@ -1,4 +1,4 @@
--- The ways on from a spot: one more byte of the field, its closer, the end of the columns, a star; and no way else. Assumes nothing.
+-- The ways on from a spot: one more byte of the field, its closer, the end of the columns, a star; and no way else.
 use mathlib.Core.Path.{_≡_, refl}
 use mathlib.Core.Bool.{Bool, true, false, cond}
 use Prim.Native.Nat.{ℕ, _+_, _≤_, _<_}
@@ -10,7 +10,8 @@ use Rattle.grammar.specs.Words.{semicolon, star}
 use Rattle.grammar.specs.Fields.{rule, printable, letter, plain, digit, holds, allowed}
 use Rattle.grammar.specs.Scan.{spot, takes, closes, ends, stars, columnsAfter, move, machine}
 use Rattle.grammar.specs.declared.Field.{Field}
-use Rattle.grammar.specs.declared.Field.the-variants.{OrderLetter, TableDescription, TableNarrative, Name, Kind, Numeral, AfterStar, Key, Description, ValueTable, ThematicIndex, Narrative, ColumnEnd, TextEnd}
+use Rattle.grammar.specs.declared.Field.the-variants.{OrderLetter, TableDescription, TableNarrative, Name, Kind, Numeral, AfterStar}
+use Rattle.grammar.specs.declared.Field.the-variants.{Key, Description, ValueTable, ThematicIndex, Narrative, ColumnEnd, TextEnd}
 use Rattle.grammar.specs.declared.Special.{Special}
 use Rattle.grammar.specs.declared.Special.the-variants.{Usual, ColumnsMayEnd, StarMayStand, ColumnIsWhole, TextIsWhole}
 use Rattle.grammar.specs.declared.Spot.{Spot}

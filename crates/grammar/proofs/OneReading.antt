@@ -1,13 +1,16 @@
--- No text has two readings: `printed` is injective on well-formed readings. Assumes nothing.
+-- No text has two readings: `printed` is injective on well-formed readings.
 use mathlib.Core.Path.{_≡_, refl, sym, _∙_}
 use mathlib.Core.List.{List, [], _∷_, _++_, append-assoc}
 use Prim.Native.Nat.{ℕ}
 use native.Mathlib.Omega.{arith}
 use Rattle.laws.proofs.SeparatorLaws.{one-cut}
 use Rattle.laws.proofs.TestLaws.{clash}
-use Rattle.grammar.specs.Words.{semicolon, comma, equals, Mark, absent, letterL, letterM, Column, Reading, printedMark, printedColumn, printedColumns, printed, WellFormedColumn, WellFormedColumns, WellFormed, Reads}
+use Rattle.grammar.specs.Words.{semicolon, comma, equals, Mark, absent, letterL, letterM, Column, Reading, printedMark, printedColumn}
+use Rattle.grammar.specs.Words.{printedColumns, printed, WellFormedColumn, WellFormedColumns, WellFormed, Reads}
 use Rattle.grammar.proofs.PrintIsRead.{column-then}
-use Rattle.grammar.proofs.ColumnFacts.{name-lacks-equals, count-lacks, description-lacks, value-table-lacks, thematic-index-lacks, narrative-lacks, column-not-end, mark-lacks-semicolon, table-description-lacks, table-narrative-lacks}
+use Rattle.grammar.proofs.ColumnFacts.{name-lacks-equals, count-lacks, description-lacks, value-table-lacks, thematic-index-lacks}
+use Rattle.grammar.proofs.ColumnFacts.{narrative-lacks, column-not-end, mark-lacks-semicolon, table-description-lacks}
+use Rattle.grammar.proofs.ColumnFacts.{table-narrative-lacks}
 
 heads : {a b : ℕ} {u v : List ℕ} → a ∷ u ≡ b ∷ v → (a ≡ b) × (u ≡ v)
 heads e = (cc, cc)
@@ -26,16 +29,16 @@ one-column c d u v w x e =
     let thematic-index = one-cut comma (c .thematicIndex) (d .thematicIndex) _ _ (thematic-index-lacks c w) (thematic-index-lacks d x) (value-table .1) in
     let narrative = one-cut comma (c .narrative) (d .narrative) _ _ (narrative-lacks c w) (narrative-lacks d x) (thematic-index .1) in (
       (λ i.
-      record {
-        name = name .0 i;
-        type = type .0 i;
-        count = count .0 i;
-        key = key .0 i;
-        description = description .0 i;
-        valueTable = value-table .0 i;
-        thematicIndex = thematic-index .0 i;
-        narrative = narrative .0 i;
-      }),
+          record {
+            name = name .0 i;
+            type = type .0 i;
+            count = count .0 i;
+            key = key .0 i;
+            description = description .0 i;
+            valueTable = value-table .0 i;
+            thematicIndex = thematic-index .0 i;
+            narrative = narrative .0 i;
+          }),
       heads (narrative .1) .1,
     )
 

@@ -1,4 +1,4 @@
--- The print of a well-formed reading is read to its end, and its columns are counted. Assumes nothing.
+-- The print of a well-formed reading is read to its end, and its columns are counted.
 use mathlib.Core.Path.{_≡_, refl, subst}
 use mathlib.Core.List.{List, [], _∷_, _++_, append-assoc}
 use mathlib.Core.Logic.{inl, inr}
@@ -9,11 +9,14 @@ use lib.ListN.{length, getD}
 use borrow.Author.Tests.{lt-ltb}
 use Rattle.laws.specs.Machine.{Accepts}
 use Rattle.grammar.specs.Words as words
-use Rattle.grammar.specs.Words.{semicolon, colon, comma, equals, star, Mark, absent, letterL, letterM, Column, Reading, printedMark, printedColumn, printedColumns, printed, Printable, Count, WellFormedColumn, WellFormedColumns, WellFormed}
+use Rattle.grammar.specs.Words.{semicolon, colon, comma, equals, star, Mark, absent, letterL, letterM, Column, Reading, printedMark}
+use Rattle.grammar.specs.Words.{printedColumn, printedColumns, printed, Printable, Count, WellFormedColumn, WellFormedColumns}
+use Rattle.grammar.specs.Words.{WellFormed}
 use Rattle.grammar.specs.Fields.{rule, printable, plain, digit, holds, allowed}
 use Rattle.grammar.specs.Scan.{spot, takes, closes, ends, stars, move, machine, start}
 use Rattle.grammar.specs.declared.Field.{Field}
-use Rattle.grammar.specs.declared.Field.the-variants.{OrderLetter, TableDescription, TableNarrative, Name, Kind, Numeral, AfterStar, Key, Description, ValueTable, ThematicIndex, Narrative, ColumnEnd, TextEnd}
+use Rattle.grammar.specs.declared.Field.the-variants.{OrderLetter, TableDescription, TableNarrative, Name, Kind, Numeral, AfterStar}
+use Rattle.grammar.specs.declared.Field.the-variants.{Key, Description, ValueTable, ThematicIndex, Narrative, ColumnEnd, TextEnd}
 use Rattle.grammar.specs.declared.Spot.{Spot}
 use Rattle.grammar.proofs.ByteClasses.{Holds, Word, takes-exactly, text-word}
 use Rattle.grammar.proofs.MachineMoves.{closed, take-step, close-step, star-step, not-own, own}

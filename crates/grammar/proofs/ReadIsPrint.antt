@@ -1,4 +1,12 @@
--- What is read to its end is the print of a well-formed reading. Assumes nothing.
+-- What is read to its end is the print of a well-formed reading.
+--
+-- The plan. `Leads P s st` says that the machine goes over the text s from the spot st to one of which P holds; P is any property that only
+-- the text's end has (`whole`). A field is read by induction on the text (`parse`): by `way` each byte is taken into the field, closes it,
+-- ends the columns, is a star, or is barred. So the text is a word of the field, its closer and what follows (`Parsed`), or the columns end
+-- here (`Over`), or a star stands here (`Starred`). Where only the first can be, that is `read`; a count is a numeral or a star
+-- (`counted`). A column is nine fields one after the other; their equations between texts are put together from the last to the first,
+-- which gives the column's print (`column-out`). Columns follow by induction on the length of what is left, which each of them shortens
+-- (`column-shorter`, `columns-out`). The text is the mark, the two fields before the columns, and those (`text-out`).
 use mathlib.Core.Path.{_≡_, refl, sym, ap, subst, _∙_}
 use mathlib.Core.List.{List, [], _∷_, _++_, append-assoc}
 use mathlib.Core.Logic.{_⊎_, inl, inr}
@@ -9,11 +17,13 @@ use lib.ListN.{length, getD, length-append}
 use Rattle.laws.specs.Machine.{Next, onNext}
 use Rattle.laws.proofs.TestLaws.{clash}
 use Rattle.grammar.specs.Words as words
-use Rattle.grammar.specs.Words.{semicolon, colon, comma, equals, star, Mark, absent, letterL, letterM, Column, Reading, printedMark, printedColumn, printedColumns, Printable, Count, WellFormedColumn, WellFormedColumns, WellFormed, Reads}
+use Rattle.grammar.specs.Words.{semicolon, colon, comma, equals, star, Mark, absent, letterL, letterM, Column, Reading, printedMark}
+use Rattle.grammar.specs.Words.{printedColumn, printedColumns, Printable, Count, WellFormedColumn, WellFormedColumns, WellFormed, Reads}
 use Rattle.grammar.specs.Fields.{rule}
 use Rattle.grammar.specs.Scan.{spot, machine, start}
 use Rattle.grammar.specs.declared.Field.{Field}
-use Rattle.grammar.specs.declared.Field.the-variants.{OrderLetter, TableDescription, TableNarrative, Name, Kind, Numeral, AfterStar, Key, Description, ValueTable, ThematicIndex, Narrative, ColumnEnd, TextEnd}
+use Rattle.grammar.specs.declared.Field.the-variants.{OrderLetter, TableDescription, TableNarrative, Name, Kind, Numeral, AfterStar}
+use Rattle.grammar.specs.declared.Field.the-variants.{Key, Description, ValueTable, ThematicIndex, Narrative, ColumnEnd, TextEnd}
 use Rattle.grammar.specs.declared.Special.{Special}
 use Rattle.grammar.specs.declared.Special.the-variants.{Usual, ColumnsMayEnd, StarMayStand, ColumnIsWhole, TextIsWhole}
 use Rattle.grammar.specs.declared.Spot.{Spot}
@@ -37,6 +47,7 @@ word-mark (b ∷ w) h = by (h .bytes 0 (omega arith))
   where
     alone : w ≡ []
     alone = no-bytes w (omega (arith, h .short))
+
     by : (b ≡ 76) ⊎ (b ≡ 77) → (m : Mark) × (printedMark m ≡ b ∷ w)
     by (inl e) = (letterL, rw (e, alone) refl)
     by (inr e) = (letterM, rw (e, alone) refl)
@@ -99,6 +110,7 @@ more P f n cols b bs m h (parsed p) =
   where
     shift : (k : ℕ) → n + 1 + k ≡ n + suc k
     shift k = omega arith
+
     at : (k : ℕ) → k < length (b ∷ p .word) → Holds (rule f .holds) (n + k) (getD (b ∷ p .word) k 0)
     at zero l = rw add-zero h
     at (suc k) l = subst (λ (j : ℕ). Holds (rule f .holds) j (getD (p .word) k 0)) (shift k) (p .bytes k (omega arith))

@@ -1,4 +1,4 @@
--- The counts of a scan are never past the bytes that it has read, so no sum of them wraps. Assumes nothing.
+-- The counts of a scan are never past the bytes that it has read, so no sum of them wraps.
 use mathlib.Core.Path.{_≡_, refl}
 use mathlib.Core.List.{List}
 use lib.ListN.{length}

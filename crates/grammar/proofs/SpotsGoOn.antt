@@ -1,4 +1,4 @@
--- From each spot that is reached some text goes on to the end of a header text. Assumes nothing.
+-- From each spot that is reached some text goes on to the end of a header text.
 use mathlib.Core.Path.{_≡_, refl, sym, subst}
 use mathlib.Core.List.{List, [], _∷_, _++_}
 use mathlib.Core.Logic.{by-cases}
@@ -12,7 +12,8 @@ use Rattle.grammar.specs.Words.{semicolon}
 use Rattle.grammar.specs.Fields.{rule}
 use Rattle.grammar.specs.Scan.{spot, machine}
 use Rattle.grammar.specs.declared.Field.{Field}
-use Rattle.grammar.specs.declared.Field.the-variants.{OrderLetter, TableDescription, TableNarrative, Name, Kind, Numeral, AfterStar, Key, Description, ValueTable, ThematicIndex, Narrative, ColumnEnd, TextEnd}
+use Rattle.grammar.specs.declared.Field.the-variants.{OrderLetter, TableDescription, TableNarrative, Name, Kind, Numeral, AfterStar}
+use Rattle.grammar.specs.declared.Field.the-variants.{Key, Description, ValueTable, ThematicIndex, Narrative, ColumnEnd, TextEnd}
 use Rattle.grammar.specs.declared.Special.the-variants.{TextIsWhole}
 use Rattle.grammar.specs.declared.Spot.{Spot}
 use Rattle.grammar.proofs.ByteClasses.{Word, takes-exactly}
@@ -32,6 +33,7 @@ ok-keeps st b st′ ok e = by (machine st b) (way (st .field) (st .n) (st .cols)
   where
     same : {x : Spot} → go x ≡ go st′ → Ok x → Ok st′
     same {x} q k = let h : x ≡ st′ = cc in subst Ok h k
+
     by : (o : Next Spot) → Way (st .field) (st .n) (st .cols) b o → o ≡ go st′ → Ok st′
     by _ (taken t) q = same q (omega (arith, takes-exactly (st .field) (st .n) b .0 t .0))
     by _ (shut t) q = same q (omega arith)

@@ -4,7 +4,8 @@ use Prim.Native.Nat.{ℕ}
 use lib.Dec.{ltb, leb, eqb}
 use Rattle.grammar.specs.Words.{semicolon, colon, comma, equals}
 use Rattle.grammar.specs.declared.Field.{Field}
-use Rattle.grammar.specs.declared.Field.the-variants.{OrderLetter, TableDescription, TableNarrative, Name, Kind, Numeral, AfterStar, Key, Description, ValueTable, ThematicIndex, Narrative, ColumnEnd, TextEnd}
+use Rattle.grammar.specs.declared.Field.the-variants.{OrderLetter, TableDescription, TableNarrative, Name, Kind, Numeral, AfterStar}
+use Rattle.grammar.specs.declared.Field.the-variants.{Key, Description, ValueTable, ThematicIndex, Narrative, ColumnEnd, TextEnd}
 use Rattle.grammar.specs.declared.Class.{Class}
 use Rattle.grammar.specs.declared.Class.the-variants.{Letters, NoSemicolon, Plain, Digits}
 use Rattle.grammar.specs.declared.Special.{Special}

@@ -1,4 +1,4 @@
--- A HEADER IS ACCEPTED EXACTLY WHEN it meets the grammar, its column rules and its limits, with one reading. Assumes nothing.
+-- A HEADER IS ACCEPTED EXACTLY WHEN it meets the grammar, its column rules and its limits, with one reading.
 use mathlib.Core.Path.{_≡_, refl, subst}
 use mathlib.Core.Logic.{_↔_}
 use mathlib.Core.List.{List}
@@ -15,7 +15,9 @@ use Rattle.header.specs.declared.Answer.the-variants.{Accepted}
 use Rattle.header.specs.Judge.{mostText, mostColumns, headerRefusal, answered}
 use Rattle.header.specs.Layouts.{headerOf}
 use Rattle.header.specs.Words.{OneId, AcceptedHeader}
-use Rattle.header.specs.Refusals.{SaysLength, textIn, TextReads, OfLength, OfReading, AllSound, NamesDiffer, Test, five-bytes, order-letter, text-fits, text-limit, in-grammar, columns-sound, at-most-64, names-differ, one-id, Holds}
+use Rattle.header.specs.Refusals.{SaysLength, textIn, TextReads, OfLength, OfReading, AllSound, NamesDiffer, Test, five-bytes}
+use Rattle.header.specs.Refusals.{order-letter, text-fits, text-limit, in-grammar, columns-sound, at-most-64, names-differ, one-id}
+use Rattle.header.specs.Refusals.{Holds}
 use Rattle.header.proofs.TestsInWords.{one-text}
 use Rattle.header.proofs.InOrder.{one-length, all-hold-exactly}
 

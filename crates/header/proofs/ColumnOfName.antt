@@ -1,5 +1,5 @@
 -- THE COLUMN OF A NAME, "letters of either case", in an accepted header: the one column that has it, or 0 where none does; 0 too where
--- the header is refused. Assumes nothing.
+-- the header is refused.
 use mathlib.Core.Path.{_≡_}
 use mathlib.Core.Logic.{_⊎_, inl, inr, ⊎-elim}
 use mathlib.Core.Bool.{true}

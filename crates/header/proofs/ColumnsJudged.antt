@@ -1,4 +1,4 @@
--- The tests of the columns, in the words of the reading: sound columns, names that differ, one id. Assumes nothing.
+-- The tests of the columns, in the words of the reading: sound columns, names that differ, one id.
 use mathlib.Core.Path.{_≡_, refl, sym, ap, subst, _∙_}
 use mathlib.Core.Logic.{_↔_, by-cases, _⊎_, inl, inr, ⊎-elim}
 use mathlib.Core.Bool.{Bool, true, false, not, _||_, true≢false}
@@ -222,7 +222,8 @@ module _ (s : List ℕ) (h : Reading) (r : Reads (drop 4 s) h) where
             },
         λ o.
             let same : id ≡ o .id = o .only id (w .0) (w .1) in
-            rest (w .0) .1 (subst (λ (x : ℕ). ((columnAt h x .type ≡ 73) × ((columnAt h x .count ≡ 49 ∷ []) × (columnAt h x .key ≡ keyP))) × Each columns (λ k. columnAt h k .key ≡ keyP → k ≡ x)) (sym same)
+            rest (w .0) .1 (subst (λ (x : ℕ). ((columnAt h x .type ≡ 73) × ((columnAt h x .count ≡ 49 ∷ []) ×
+            (columnAt h x .key ≡ keyP))) × Each columns (λ k. columnAt h k .key ≡ keyP → k ≡ x)) (sym same)
             ((o .type-I, (o .count-1, o .key-P)), o .no-other-P)),
       ))
       (column-named idName)

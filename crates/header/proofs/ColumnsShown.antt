@@ -1,5 +1,5 @@
 -- In a head whose text is the print of a well-formed reading, seeking the separators finds each column's print, and the definition
--- there shows the column. Assumes nothing.
+-- there shows the column.
 use mathlib.Core.Path.{_≡_, refl, sym, ap, _∙_}
 use mathlib.Core.Logic.{inl, inr}
 use mathlib.Core.Bool.{true}
@@ -13,10 +13,13 @@ use lib.Seq.{drop-cons, drop-length, take-all, getD-drop}
 use borrow.Author.Tests.{lt-ltb, ne-eqb, eqb-true, eq-eqb}
 use Rattle.laws.proofs.SeparatorLaws.{Lacks, lacks-tail}
 use Rattle.laws.proofs.PlaceLaws.{stands-inside, stands-byte, stands-past, stands-next, stands-part}
-use Rattle.grammar.specs.Words.{semicolon, colon, comma, equals, star, Column, Reading, printedMark, printedColumn, printedColumns, printed, Numeral, Count, WellFormedColumn, WellFormedColumns, Reads}
+use Rattle.grammar.specs.Words.{semicolon, colon, comma, equals, star, Column, Reading, printedMark, printedColumn, printedColumns, printed}
+use Rattle.grammar.specs.Words.{Numeral, Count, WellFormedColumn, WellFormedColumns, Reads}
 use Rattle.grammar.proofs.PrintIsRead.{column-then}
-use Rattle.grammar.proofs.ColumnFacts.{name-lacks-equals, count-lacks, description-lacks, value-table-lacks, thematic-index-lacks, narrative-lacks, mark-lacks-semicolon, table-description-lacks, table-narrative-lacks}
-use Rattle.header.specs.Places.{before, seek, decimal, countOf, part, span, nameEnd, countEnd, descriptionEnd, valueTableEnd, thematicIndexEnd, narrativeEnd, definition, firstPlace, placeAfter, column}
+use Rattle.grammar.proofs.ColumnFacts.{name-lacks-equals, count-lacks, description-lacks, value-table-lacks, thematic-index-lacks}
+use Rattle.grammar.proofs.ColumnFacts.{narrative-lacks, mark-lacks-semicolon, table-description-lacks, table-narrative-lacks}
+use Rattle.header.specs.Places.{before, seek, decimal, countOf, part, span, nameEnd, countEnd, descriptionEnd, valueTableEnd}
+use Rattle.header.specs.Places.{thematicIndexEnd, narrativeEnd, definition, firstPlace, placeAfter, column}
 use Rattle.header.specs.Words.{noColumn, columnAt, Shows}
 
 -- ---- the first separator

@@ -1,4 +1,4 @@
--- A count of at most five bytes: one turn of its loop, and how great it can be. Assumes nothing.
+-- A count of at most five bytes: one turn of its loop, and how great it can be.
 use mathlib.Core.Path.{_≡_}
 use mathlib.Core.Logic.{by-cases}
 use mathlib.Core.List.{List, [], _∷_}

@@ -1,4 +1,4 @@
--- What is read of an accepted header, and of a refused one. Assumes nothing.
+-- What is read of an accepted header, and of a refused one.
 use mathlib.Core.Path.{_≡_, sym, ap, _∙_}
 use mathlib.Core.Bool.{true, false}
 use mathlib.Core.List.{List}

@@ -1,5 +1,5 @@
 -- The tests of a header in document 01's order: nothing is refused exactly where all of them hold, and a number at a place exactly
--- where one fails so while all earlier ones hold. Assumes nothing.
+-- where one fails so while all earlier ones hold.
 use mathlib.Core.Path.{_≡_, refl, sym, ap, subst, _∙_}
 use mathlib.Core.Logic.{_↔_}
 use mathlib.Core.List.{List, [], _∷_}
@@ -13,8 +13,11 @@ use Rattle.grammar.specs.Words.{Reading, Reads}
 use Rattle.grammar.proofs.FirstBadByte.{first-bad-byte}
 use Rattle.grammar.proofs.GrammarExact.{grammar-exact}
 use Rattle.header.specs.Judge.{textLength, tests, headerRefusal}
-use Rattle.header.specs.Refusals.{SaysLength, textIn, OfLength, OfReading, LeavesGrammar, Test, five-bytes, order-letter, text-fits, text-limit, in-grammar, columns-sound, at-most-64, names-differ, one-id, rank, Holds, FailsAt, RefusedWith}
-use Rattle.header.proofs.TestsInWords.{length-said, one-text, judged-five, judged-letter, judged-fits, judged-limit, judged-grammar, judged-sound, judged-64, judged-names, judged-id}
+use Rattle.header.specs.Refusals.{SaysLength, textIn, OfLength, OfReading, LeavesGrammar, Test, five-bytes, order-letter, text-fits}
+use Rattle.header.specs.Refusals.{text-limit, in-grammar, columns-sound, at-most-64, names-differ, one-id, rank, Holds, FailsAt}
+use Rattle.header.specs.Refusals.{RefusedWith}
+use Rattle.header.proofs.TestsInWords.{length-said, one-text, judged-five, judged-letter, judged-fits, judged-limit, judged-grammar}
+use Rattle.header.proofs.TestsInWords.{judged-sound, judged-64, judged-names, judged-id}
 
 -- no two tests have one place in the order
 order : List Test
@@ -49,16 +52,31 @@ rank-below one-id = omega arith
 module _ (file : List ℕ) where
   -- each test is judged while the earlier ones hold: L needs the order letter, the columns need a reading, `id` names that differ
   in-order : InOrder Test rank apart (Holds file) (FailsAt file) (tests file) 0
-  in-order =
-      ((five-bytes, refl, λ e. judged-five file),
-      ((order-letter, refl, λ e. judged-letter file),
-      ((text-fits, refl, λ e. judged-fits file (e order-letter (omega arith))),
-      ((text-limit, refl, λ e. judged-limit file (e order-letter (omega arith))),
-      ((in-grammar, refl, λ e. judged-grammar file (e order-letter (omega arith))),
-      ((columns-sound, refl, λ e. let r = e in-grammar (omega arith) in judged-sound file (r .0) (r .1)),
-      ((at-most-64, refl, λ e. let r = e in-grammar (omega arith) in judged-64 file (r .0) (r .1)),
-      ((names-differ, refl, λ e. let r = e in-grammar (omega arith) in judged-names file (r .0) (r .1)),
-      ((one-id, refl, λ e. let r = e names-differ (omega arith) in judged-id file (r .0) (r .1) (r .2)), tt)))))))))
+  in-order = (
+    (five-bytes, refl, λ e. judged-five file),
+    (
+      (order-letter, refl, λ e. judged-letter file),
+      (
+        (text-fits, refl, λ e. judged-fits file (e order-letter (omega arith))),
+        (
+          (text-limit, refl, λ e. judged-limit file (e order-letter (omega arith))),
+          (
+            (in-grammar, refl, λ e. judged-grammar file (e order-letter (omega arith))),
+            (
+              (columns-sound, refl, λ e. let r = e in-grammar (omega arith) in judged-sound file (r .0) (r .1)),
+              (
+                (at-most-64, refl, λ e. let r = e in-grammar (omega arith) in judged-64 file (r .0) (r .1)),
+                (
+                  (names-differ, refl, λ e. let r = e in-grammar (omega arith) in judged-names file (r .0) (r .1)),
+                  ((one-id, refl, λ e. let r = e names-differ (omega arith) in judged-id file (r .0) (r .1) (r .2)), tt),
+                ),
+              ),
+            ),
+          ),
+        ),
+      ),
+    ),
+  )
 
   -- ---- L is one number, and the reading is one
   pub one-length : (l m : ℕ) → SaysLength file l → SaysLength file m → l ≡ m

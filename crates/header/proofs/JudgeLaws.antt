@@ -1,4 +1,4 @@
--- The tests of a header, stage by stage, as the code makes them. Assumes nothing.
+-- The tests of a header, stage by stage, as the code makes them.
 use mathlib.Core.Path.{_≡_, refl, sym, ap, _∙_}
 use mathlib.Core.Bool.{Bool, true, false}
 use mathlib.Core.List.{List}
@@ -25,7 +25,8 @@ use Rattle.header.specs.declared.Facts.{Facts}
 use Rattle.header.specs.declared.Judged.the-variants.{Sound, Refused}
 use Rattle.header.specs.Places.{definition, placeAfter, column}
 use Rattle.header.specs.Names.{namedBefore, columnNamed}
-use Rattle.header.specs.Judge.{mostText, mostColumns, orderByte, orderOfFile, textLength, headOf, textOf, columnCount, sound, columnRefusal, idName, idSound, otherKeyP, idColumn, idWrong, tests, headerRefusal}
+use Rattle.header.specs.Judge.{mostText, mostColumns, orderByte, orderOfFile, textLength, headOf, textOf, columnCount, sound}
+use Rattle.header.specs.Judge.{columnRefusal, idName, idSound, otherKeyP, idColumn, idWrong, tests, headerRefusal}
 use Rattle.header.specs.Serving.Stages.{mostHead, nameTests, columnTests, textTests, facts, judged, judgedText, judgedFile}
 use Rattle.header.proofs.PlaceLaws.{is-column}
 

@@ -1,4 +1,4 @@
--- One more column laid out. Assumes nothing.
+-- One more column laid out.
 use mathlib.Core.Path.{_≡_, ap, _∙_}
 use mathlib.Core.Bool.{Bool, true, cond}
 use mathlib.Core.List.{List, _++_}

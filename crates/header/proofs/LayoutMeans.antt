@@ -1,5 +1,5 @@
 -- WHAT THE ROWS TAKE FROM AN ACCEPTED HEADER is what its reading says: the order, where the rows start, the columns with their
--- types, counts, bytes and places, the `id` column, and the one width of the rows or none. Assumes nothing.
+-- types, counts, bytes and places, the `id` column, and the one width of the rows or none.
 use mathlib.Core.Path.{_≡_, refl, sym, ap, subst, _∙_}
 use mathlib.Core.Logic.{_↔_, by-cases, inl, inr, ⊎-elim}
 use mathlib.Core.Bool.{true, false, true≢false}

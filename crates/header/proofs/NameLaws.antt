@@ -1,4 +1,4 @@
--- Two texts compared byte by byte, case ignored: one turn of the loop. Assumes nothing.
+-- Two texts compared byte by byte, case ignored: one turn of the loop.
 use mathlib.Core.Path.{_≡_, refl, ap, _∙_}
 use mathlib.Core.Bool.{Bool, true, false, not, _&&_}
 use mathlib.Core.List.{List, [], _∷_, _++_}

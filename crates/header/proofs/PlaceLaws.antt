@@ -1,4 +1,4 @@
--- One turn of the search for a byte, and where the fields of a definition can lie. Assumes nothing.
+-- One turn of the search for a byte, and where the fields of a definition can lie.
 use mathlib.Core.Path.{_≡_, ap, _∙_}
 use mathlib.Core.Logic.{by-cases}
 use mathlib.Core.List.{List, [], _∷_}

@@ -1,5 +1,4 @@
 -- A HEADER IS REFUSED WITH n AT p EXACTLY WHEN a test fails so, at the place that the paper names, and all earlier ones hold.
--- Assumes nothing.
 use mathlib.Core.Path.{_≡_, sym, ap, _∙_}
 use mathlib.Core.Logic.{_↔_}
 use mathlib.Core.Bool.{false}

@@ -1,4 +1,4 @@
--- The step at a place, as a loop over the columns finds it. Assumes nothing.
+-- The step at a place, as a loop over the columns finds it.
 use mathlib.Core.Path.{_≡_, sym, _∙_}
 use mathlib.Core.Bool.{Bool, true}
 use mathlib.Core.List.{List}

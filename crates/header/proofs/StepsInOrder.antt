@@ -1,5 +1,5 @@
 -- The steps through an accepted header give the columns of its reading in order, each moving past exactly its printed definition,
--- and then the end; a refused header gives its refusal at every place. Assumes nothing.
+-- and then the end; a refused header gives its refusal at every place.
 use mathlib.Core.Path.{_≡_, refl, sym, ap, _∙_}
 use mathlib.Core.Logic.{by-cases}
 use mathlib.Core.Bool.{true}

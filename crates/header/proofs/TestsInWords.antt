@@ -1,5 +1,5 @@
 -- Each test of a header in document 01's words: it refuses nothing exactly where the words hold, and else its number at the place
--- that the paper names. Assumes nothing.
+-- that the paper names.
 use mathlib.Core.Path.{_≡_, refl, sym, ap, subst, _∙_}
 use mathlib.Core.Logic.{_↔_, _⊎_, inl, inr, ⊎-elim}
 use mathlib.Core.Bool.{true, false, not, true≢false}
@@ -28,9 +28,12 @@ use Rattle.grammar.proofs.FirstBadByte.{first-bad-byte}
 use Rattle.grammar.proofs.OneReading.{reads-once}
 use Rattle.header.specs.Places.{column}
 use Rattle.header.specs.Names.{namedBefore}
-use Rattle.header.specs.Judge.{mostText, mostColumns, orderByte, listed, orderOfFile, textLength, headOf, textOf, grammarRefusal, columnCount, sound, columnRefusal, idWrong}
+use Rattle.header.specs.Judge.{mostText, mostColumns, orderByte, listed, orderOfFile, textLength, headOf, textOf, grammarRefusal}
+use Rattle.header.specs.Judge.{columnCount, sound, columnRefusal, idWrong}
 use Rattle.header.specs.Words.{columnAt, OrderIs, by-L, by-M, by-none, ColumnSound, OneId}
-use Rattle.header.specs.Refusals.{SaysLength, textIn, TextReads, OfLength, OfReading, LeavesGrammar, NotNamedBefore, NamesDiffer, five-bytes, order-letter, text-fits, text-limit, in-grammar, columns-sound, at-most-64, names-differ, one-id, Holds, FailsAt}
+use Rattle.header.specs.Refusals.{SaysLength, textIn, TextReads, OfLength, OfReading, LeavesGrammar, NotNamedBefore, NamesDiffer}
+use Rattle.header.specs.Refusals.{five-bytes, order-letter, text-fits, text-limit, in-grammar, columns-sound, at-most-64, names-differ}
+use Rattle.header.specs.Refusals.{one-id, Holds, FailsAt}
 use Rattle.header.proofs.ColumnsJudged.{sound-at, named-exactly, id-exactly}
 
 -- ---- the order that byte 4 gives

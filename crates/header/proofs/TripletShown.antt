@@ -1,5 +1,5 @@
 -- "if K occurs": a column of the layout that a file's header gives is of type K EXACTLY WHEN its header is accepted and a column of its
--- reading has the type letter K. Assumes nothing.
+-- reading has the type letter K.
 use mathlib.Core.Path.{_≡_, refl, sym, ap, _∙_}
 use mathlib.Core.Logic.{_↔_}
 use mathlib.Core.Bool.{Bool, true}

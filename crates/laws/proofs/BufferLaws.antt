@@ -1,5 +1,4 @@
 -- A list made of a function, and a buffer whose front is one.
--- Assumes nothing.
 use mathlib.Core.Path.{_≡_, refl, sym, ap, _∙_}
 use mathlib.Core.Logic.{by-cases, _≢_}
 use mathlib.Core.List.{List, [], _∷_, _++_, append-assoc}

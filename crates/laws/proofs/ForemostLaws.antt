@@ -1,4 +1,4 @@
--- The laws of the foremost of g 1, .., g n, over any order with ties. Assumes nothing.
+-- The laws of the foremost of g 1, .., g n, over any order with ties.
 use mathlib.Core.Path.{_≡_, refl, sym, ap, _∙_}
 use mathlib.Core.Logic.{_⊎_, ⊎-elim, ⊎-swap, by-cases}
 use mathlib.Core.Bool.{Bool, true, false, cond, true≢false}

@@ -1,4 +1,4 @@
--- A text leaves a language at one place, and a machine that accepts the language is stuck there. Assumes nothing.
+-- A text leaves a language at one place, and a machine that accepts the language is stuck there.
 use mathlib.Core.Path.{_≡_, subst}
 use mathlib.Core.List.{List, [], _++_, append-assoc}
 use mathlib.Core.Logic.{_↔_, by-cases}

@@ -1,5 +1,4 @@
 -- The least value of the rows that pass a test, and the lower of two lowest: one pass over the rows finds the lowest value that some row has.
--- Assumes nothing.
 use mathlib.Core.Path.{_≡_, refl, sym, ap, _∙_}
 use mathlib.Core.Logic.{by-cases, _⊎_, inl, inr, ⊎-elim}
 use mathlib.Core.Bool.{Bool, true, false, cond, _&&_, _||_, true≢false}

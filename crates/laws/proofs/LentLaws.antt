@@ -1,4 +1,4 @@
--- A list with a run of it stored anew, and a part of a slice that was lent and came back. Assumes nothing.
+-- A list with a run of it stored anew, and a part of a slice that was lent and came back.
 use mathlib.Core.Path.{_≡_, refl, _∙_}
 use mathlib.Core.List.{List, [], _∷_, _++_, append-nil, append-assoc}
 use Prim.Native.Nat.{ℕ, suc, _+_, _-_, _≤_, _<_}

@@ -1,5 +1,4 @@
 -- The laws of the lowest number of 1..n that passes a test.
--- Assumes nothing.
 use mathlib.Core.Path.{_≡_, refl, sym, ap, _∙_}
 use mathlib.Core.Logic.{by-cases, _⊎_, inl, inr, ⊎-elim}
 use mathlib.Core.Bool.{Bool, true, false, cond, true≢false}
@@ -104,7 +103,8 @@ pub lowest-shift : (p : ℕ → Bool) (n : ℕ) → p 1 ≡ false → lowest p (
 lowest-shift p n e =
     ⊎-elim
     (λ h.
-    lowest-none p (suc n) (λ k a b. by-cases (decLe k 1) (λ c. let q : k ≡ 1 = omega arith in rw q e) (λ c. let q : k ≡ suc (k - 1) = omega arith in ap p q ∙ h .1 .fails (k - 1) (omega arith) (omega arith)))
+    lowest-none p (suc n) (λ k a b. by-cases (decLe k 1) (λ c. let q : k ≡ 1 = omega arith in rw q e) (λ c. let q : k ≡ suc
+    (k - 1) = omega arith in ap p q ∙ h .1 .fails (k - 1) (omega arith) (omega arith)))
     ∙ ap shifted (sym (h .0)))
     (λ h.
     lowest-is p (suc n) (suc (lowest (λ j. p (suc j)) n)) (omega arith) (suc-le-suc (h .within)) (h .passes)

@@ -1,4 +1,4 @@
--- One turn of a machine's loop, as the code takes it: at place i of the text s. Assumes nothing.
+-- One turn of a machine's loop, as the code takes it: at place i of the text s.
 use mathlib.Core.Path.{_≡_, refl, sym, ap, subst, _∙_}
 use native.Mathlib.Omega.{arith}
 use mathlib.Core.List.{List, [], _∷_, _++_}

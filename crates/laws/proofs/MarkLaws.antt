@@ -1,5 +1,5 @@
--- Marks in a buffer, one for each of 1..n: counting predecessors, painting a walk, and owners. One turn of each loop, over a function f on 1..n, and what the loops leave.
--- Assumes nothing.
+-- Marks in a buffer, one for each of 1..n: counting predecessors, painting a walk, and owners. One turn of each loop, over a function f on
+-- 1..n, and what the loops leave.
 use mathlib.Core.Path.{_≡_, refl, sym, ap, _∙_}
 use mathlib.Core.Logic.{by-cases}
 use mathlib.Core.Bool.{Bool, cond}
@@ -101,7 +101,8 @@ pub over-front : (g h : ℕ → ℕ) (n : ℕ) (d m₁ m₂ : List ℕ) → m₁
 over-front g h n d m₁ m₂ a b = b ∙ ap (front g n) a ∙ front-over g h n d
 
 -- ---- the owners, row by row
-module _ (f : ℕ → ℕ) (n : ℕ) (st : ℕ → ℕ) (R : ℕ) (m m₀ : List ℕ) (w : Into f n n) (v : Starts n st R) (r : ℕ) (h : r < R) (q : m ≡ front (ownerAt f n st r) n m₀) (N : None (alreadyMet f n st) r) where
+module _ (f : ℕ → ℕ) (n : ℕ) (st : ℕ → ℕ) (R : ℕ) (m m₀ : List ℕ) (w : Into f n n) (v : Starts n st R) (r : ℕ) (h : r < R) (q : m ≡ front
+    (ownerAt f n st r) n m₀) (N : None (alreadyMet f n st) r) where
   no-owner : st (suc r) ≡ 0 → owner f n st r (st (suc r)) ≡ 0
   no-owner e =
       lowest-none (λ p. meets f n (st p) (st (suc r))) r

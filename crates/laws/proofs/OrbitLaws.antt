@@ -1,5 +1,4 @@
 -- Cycles of an injective map of 1..n into itself.
--- Assumes nothing.
 use mathlib.Core.Path.{_≡_, refl, sym, ap, _∙_}
 use mathlib.Core.Logic.{by-cases, _⊎_, ⊎-elim}
 use mathlib.Core.Bool.{Bool, true, false, cond, true≢false}
@@ -148,7 +147,8 @@ module _ (f : ℕ → ℕ) (n : ℕ) (g : Into f n n) (h : Inj f n) where
         lt-ltb 0 _ (lowest-some (λ k. eqb (iterate f k s) t) (firstReturn f n s) (r .0) (r .1) (r .2) (eq-eqb (iterate f (r .0) s) t (r .3 ∙ w .1))) ∙ sym c)
         (λ c.
         bool-cases (meets f (firstReturn f n s) s t)
-        (λ d. absurd (true≢false (sym (meets-of (lowest (λ k. eqb (iterate f k s) t) (firstReturn f n s)) t (eqb-true _ t (lowest-pos (λ k. eqb (iterate f k s) t) (firstReturn f n s) (ltb-true 0 _ d) .passes))) ∙ c)))
+        (λ d. absurd (true≢false (sym (meets-of (lowest (λ k. eqb (iterate f k s) t) (firstReturn f n s)) t (eqb-true _ t (lowest-pos (λ k. eqb
+        (iterate f k s) t) (firstReturn f n s) (ltb-true 0 _ d) .passes))) ∙ c)))
         (λ d. d ∙ sym c))
 
   -- TWO WALKS THAT MEET meet the same places

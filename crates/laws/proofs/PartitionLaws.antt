@@ -1,4 +1,4 @@
--- Numbers of which none is below the one before it cut what lies between the first and the last into parts. Assumes nothing.
+-- Numbers of which none is below the one before it cut what lies between the first and the last into parts.
 use mathlib.Core.Path.{_≡_, refl, sym, ap}
 use mathlib.Core.Logic.{by-cases}
 use Prim.Native.Nat.{ℕ, zero, suc, pred, _+_, _-_, _≤_, _<_}

@@ -1,4 +1,4 @@
--- A text written into a buffer piece by piece. Assumes nothing.
+-- A text written into a buffer piece by piece.
 use mathlib.Core.Path.{_≡_, refl, sym, ap, _∙_}
 use mathlib.Core.List.{List, [], _∷_, _++_, append-assoc, append-nil}
 use Prim.Native.Nat.{ℕ, zero, suc, _+_, _≤_, _<_}

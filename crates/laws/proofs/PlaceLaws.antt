@@ -1,4 +1,4 @@
--- What stands at a place of a text: `drop p s` is the text from the place p on. Assumes nothing.
+-- What stands at a place of a text: `drop p s` is the text from the place p on.
 use mathlib.Core.Path.{_≡_, sym, ap, _∙_}
 use mathlib.Core.List.{List, [], _∷_, _++_}
 use Prim.Native.Nat.{ℕ, zero, suc, _+_, _-_, _≤_, _<_}

@@ -1,4 +1,4 @@
--- A text that is cut at the first place of a separator is cut in one way only. Assumes nothing.
+-- A text that is cut at the first place of a separator is cut in one way only.
 use mathlib.Core.Path.{_≡_, refl}
 use mathlib.Core.List.{List, [], _∷_, _++_}
 use Prim.Native.Nat.{ℕ, suc, _<_}

@@ -1,5 +1,4 @@
 -- Sums over 1..n: two orders of summing, sums of tests, and the pigeonhole.
--- Assumes nothing.
 use mathlib.Core.Path.{_≡_, refl, sym, ap, _∙_}
 use mathlib.Core.Logic.{by-cases, _⊎_, ⊎-elim}
 use mathlib.Core.Bool.{Bool, true, false, true≢false}
@@ -89,15 +88,12 @@ module _ (p : ℕ → Bool) where
 pub sum-delta : (n a : ℕ) → 0 < a → a ≤ n → sum (λ k. bit (eqb k a)) n ≡ 1
 sum-delta n a u v = sum-one (λ k. eqb k a) n a u v (eq-eqb a a refl) (λ k b c t. eqb-true k a t)
 
-
 -- summed over all of 1..n that is m, if f goes into 1..n
 pub sum-hits : (f : ℕ → ℕ) (m n : ℕ) → ((k : ℕ) → 0 < k → k ≤ m → (0 < f k) × (f k ≤ n)) → sum (hits f m) n ≡ m
 sum-hits f m n h =
     sym (sum-swap (λ j s. bit (eqb s (f j))) m n)
     ∙ sum-ext (λ j. sum (λ s. bit (eqb s (f j))) n) (λ j. 1) m (λ k a b. sum-delta n (f k) (h k a b .0) (h k a b .1))
     ∙ sum-ones m
-
-
 
 pub hits-le : (f : ℕ → ℕ) (m : ℕ) → Inj f m → (s : ℕ) → hits f m s ≤ 1
 hits-le f m h s = sum-most (λ j. eqb s (f j)) m (λ i j a b c d t u. h i j a b c d (sym (eqb-true s (f i) t) ∙ eqb-true s (f j) u))

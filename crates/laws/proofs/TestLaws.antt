@@ -1,5 +1,4 @@
 -- What a test says in words where it is false ("nothing is wrong"), for tests joined by "or" and "and".
--- Assumes nothing.
 use mathlib.Core.Path.{_≡_, refl, sym}
 use mathlib.Core.Logic.{_↔_, _⊎_, inl, inr, ⊎-elim}
 use mathlib.Core.Bool.{Bool, true, false, cond, not, _&&_, _||_, true≢false}

@@ -1,5 +1,4 @@
 -- The cells of rows that are judged, by plain numbers: the slots of the columns, and what each turn of a writing loop stands on.
--- Assumes nothing.
 use mathlib.Core.Path.{_≡_, refl, sym, ap, _∙_}
 use mathlib.Core.Logic.{by-cases}
 use mathlib.Core.Bool.{false, cond}
@@ -170,7 +169,7 @@ module _ (s : List ℕ) (l : Layout) (start end : ℕ) (inside : outside s start
         let d = such (columnsOf l) c (there (suc k) (omega arith) (omega arith)) in
         let alone = slot-alone columns (six-there l columns there) (suc k) (omega arith) (omega arith) in
         let e : keptFor (plannedPlaces (l .order) s plan start end slots (l .columns)) slots c ≡ columnPlace s l start end c =
-            rw (planned, slotted) (planned-place s l start end (slotsOf columns) (l .columns) c z inside (d .0) (omega (arith, d .1)) (omega (arith, d .1)) alone) in
+        rw (planned, slotted) (planned-place s l start end (slotsOf columns) (l .columns) c z inside (d .0) (omega (arith, d .1)) (omega (arith, d .1)) alone) in
         let at = plannedPlaces (l .order) s plan start end slots (l .columns) in
         front-low (λ k. numberBy (l .order) s (getD letters k 0) (keptFor at slots (getD columns k 0)) end) 6 (replicate 6 0) k one
         ∙ read-at c _ (getD letters k 0) letter-at e
@@ -244,8 +243,8 @@ module _ (file index : List ℕ) (l : Layout) (rows : ℕ) (judged : None (refus
   column-written k there slots a letter offset b c i d e all h =
       let put = columnCellBy (l .order) file index (l .start) (l .width) plan slots k letter offset in
       let cell : (j : ℕ) → j < rows → put j ≡ cellOf file index l k j =
-          λ j more. rw (bound-by index l j, bound-by index l (suc j))
-          (column-cell file l (boundOf l index j) (boundOf l index (suc j)) (row-inside j more) plan planned k there slots a letter offset b c) in
+      λ j more. rw (bound-by index l j, bound-by index l (suc j))
+      (column-cell file l (boundOf l index j) (boundOf l index (suc j)) (row-inside j more) plan planned k there slots a letter offset b c) in
       h ∙ rw all (front-ext put (cellOf file index l k) rows d cell)
 
   -- and of the six, by their places
@@ -257,6 +256,6 @@ module _ (file index : List ℕ) (l : Layout) (rows : ℕ) (judged : None (refus
   edge-written columns slots letters offsets there a b c k one i d e all h =
       let put = edgeCellBy (l .order) file index (l .start) (l .width) plan slots letters offsets columns (l .columns) k in
       let cell : (j : ℕ) → j < rows → put j ≡ cellOf file index l (atPlace columns (suc k)) j =
-          λ j more. rw (bound-by index l j, bound-by index l (suc j))
-          (edge-cell file l (boundOf l index j) (boundOf l index (suc j)) (row-inside j more) plan planned columns slots letters offsets there a b c k one) in
+      λ j more. rw (bound-by index l j, bound-by index l (suc j))
+      (edge-cell file l (boundOf l index j) (boundOf l index (suc j)) (row-inside j more) plan planned columns slots letters offsets there a b c k one) in
       h ∙ rw all (front-ext put (cellOf file index l (atPlace columns (suc k))) rows d cell)

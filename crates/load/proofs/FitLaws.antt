@@ -1,4 +1,4 @@
--- The tests between opening and rows. Assumes nothing.
+-- The tests between opening and rows.
 use mathlib.Core.Path.{_≡_, refl, sym, ap, _∙_}
 use mathlib.Core.Bool.{Bool, false}
 use mathlib.Core.List.{List}

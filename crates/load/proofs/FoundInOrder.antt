@@ -1,5 +1,5 @@
 -- Tests in order, each with its finding, exact in words while the earlier ones hold: then so is the first finding. And tests of every
--- place or row, exact at the lowest that fails. Assumes nothing.
+-- place or row, exact at the lowest that fails.
 use mathlib.Core.Path.{_≡_, refl, sym, ap, subst, _∙_}
 use mathlib.Core.Logic.{_↔_, by-cases, ⊎-elim}
 use mathlib.Core.Bool.{Bool, true, false, true≢false}

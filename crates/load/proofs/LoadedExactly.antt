@@ -1,5 +1,13 @@
 -- A TILE IS LOADED EXACTLY WHEN its four tables open, the ten columns are there, no face or ring table is empty, there is room, and every
--- row is right; and a finding is given exactly when a test fails so and all earlier ones hold. Assumes nothing.
+-- row is right; and a finding is given exactly when a test fails so and all earlier ones hold.
+--
+-- The plan. The twelve tests have names and ranks (`Test`, `rank`), in document 01's order. Of each it is shown that its finding is exact
+-- (`Exactly`): nothing is found exactly where the test holds, and q exactly where it fails with q. The openings have this from crate
+-- `opening` (`opening-exactly`). The others are shown where all four tables have opened, for only then do columns and rows mean anything:
+-- 17 at the lowest place without its column (`columns-exactly`, over `there-exactly`), 15 (`some-exactly`), 14 (`room-exactly`), and the
+-- lowest row that is not right, which crate `table` judges exactly (`rows-exactly`). `in-order` lines the twelve up; by the law of
+-- FoundInOrder the first finding of all is then exact too (`all-hold-exactly`, `finding-exactly`). What is left are the counts: the rows
+-- with which the tables opened are those that the words name (`holds-loads`, `loads-holds`). So `loaded-exactly` and `refused-exactly`.
 use mathlib.Core.Path.{_≡_, refl, sym, ap, subst, _∙_}
 use mathlib.Core.Logic.{_↔_, _⊎_, inl, inr, ⊎-elim}
 use mathlib.Core.Bool.{true, false, true≢false}
@@ -44,9 +52,13 @@ use Rattle.load.specs.declared.Tables.{Tables}
 use Rattle.load.specs.declared.Finding.{Finding}
 use Rattle.load.specs.declared.Counts.{Counts}
 use Rattle.load.specs.declared.Loaded.the-variants.{Tile, Refused}
-use Rattle.load.specs.Sources.{Files, fileOf, indexOf, tableIn, tableOf, tablesOf, nameAt, tableAt, tripletsToo, typeFits, fitting, columnFor, columnsFor, atPlace, rowsFor}
-use Rattle.load.specs.Load.{finding, opening, missing, columnFinding, emptyFinding, tooShort, roomAt, roomFinding, rowsFinding, columnsOf, tests, loadFinding, counts, loadOf}
-use Rattle.load.specs.Words.{OpensWith, rowsOf, TakesTriplets, TypeRight, ColumnThere, RoomFor, layoutIn, rowEnd, rowStart, RowRight, IsEmpty, countOf, Loads, Test, opened, columns-there, faces-some, rings-some, room-enough, rows-right, turn, rank, Holds, FailsWith, RefusedWith}
+use Rattle.load.specs.Sources.{Files, fileOf, indexOf, tableIn, tableOf, tablesOf, nameAt, tableAt, tripletsToo, typeFits, fitting}
+use Rattle.load.specs.Sources.{columnFor, columnsFor, atPlace, rowsFor}
+use Rattle.load.specs.Load.{finding, opening, missing, columnFinding, emptyFinding, tooShort, roomAt, roomFinding, rowsFinding}
+use Rattle.load.specs.Load.{columnsOf, tests, loadFinding, counts, loadOf}
+use Rattle.load.specs.Words.{OpensWith, rowsOf, TakesTriplets, TypeRight, ColumnThere, RoomFor, layoutIn, rowEnd, rowStart, RowRight}
+use Rattle.load.specs.Words.{IsEmpty, countOf, Loads, Test, opened, columns-there, faces-some, rings-some, room-enough, rows-right}
+use Rattle.load.specs.Words.{turn, rank, Holds, FailsWith, RefusedWith}
 use Rattle.load.proofs.TopLaws.{numberOf}
 use Rattle.load.proofs.FoundInOrder.{Exactly, InOrder, nothing-exactly, found-exactly, exactly-of, exactly-empty, exactly-lowest}
 
@@ -361,19 +373,40 @@ module _ (f : Files) (most : ℕ) where
     all-open k a e n = e (opened n) (omega (arith, turn-below n))
 
     in-order : InOrder Test rank apart (Holds f most lengths) (FailsWith f most lengths) (tests f most lengths) 0
-    in-order =
-        ((opened Edg, refl, λ e. opening-exactly Edg),
-        ((opened Fac, refl, λ e. opening-exactly Fac),
-        ((opened Rng, refl, λ e. opening-exactly Rng),
-        ((opened Cnd, refl, λ e. opening-exactly Cnd),
-        ((columns-there, refl, λ e. columns-exactly (all-open 4 (omega arith) e)),
-        ((faces-some, refl, λ e. let o = all-open 5 (omega arith) e Fac in some-exactly Fac (o .0) (o .1) (o .2)),
-        ((rings-some, refl, λ e. let o = all-open 6 (omega arith) e Rng in some-exactly Rng (o .0) (o .1) (o .2)),
-        ((room-enough, refl, λ e. room-exactly (all-open 7 (omega arith) e) lengths),
-        ((rows-right Edg, refl, λ e. let o = all-open 8 (omega arith) e Edg in rows-exactly Edg (o .0) (o .1) (o .2)),
-        ((rows-right Fac, refl, λ e. let o = all-open 9 (omega arith) e Fac in rows-exactly Fac (o .0) (o .1) (o .2)),
-        ((rows-right Rng, refl, λ e. let o = all-open 10 (omega arith) e Rng in rows-exactly Rng (o .0) (o .1) (o .2)),
-        ((rows-right Cnd, refl, λ e. let o = all-open 11 (omega arith) e Cnd in rows-exactly Cnd (o .0) (o .1) (o .2)), tt))))))))))))
+    in-order = (
+      (opened Edg, refl, λ e. opening-exactly Edg),
+      (
+        (opened Fac, refl, λ e. opening-exactly Fac),
+        (
+          (opened Rng, refl, λ e. opening-exactly Rng),
+          (
+            (opened Cnd, refl, λ e. opening-exactly Cnd),
+            (
+              (columns-there, refl, λ e. columns-exactly (all-open 4 (omega arith) e)),
+              (
+                (faces-some, refl, λ e. let o = all-open 5 (omega arith) e Fac in some-exactly Fac (o .0) (o .1) (o .2)),
+                (
+                  (rings-some, refl, λ e. let o = all-open 6 (omega arith) e Rng in some-exactly Rng (o .0) (o .1) (o .2)),
+                  (
+                    (room-enough, refl, λ e. room-exactly (all-open 7 (omega arith) e) lengths),
+                    (
+                      (rows-right Edg, refl, λ e. let o = all-open 8 (omega arith) e Edg in rows-exactly Edg (o .0) (o .1) (o .2)),
+                      (
+                        (rows-right Fac, refl, λ e. let o = all-open 9 (omega arith) e Fac in rows-exactly Fac (o .0) (o .1) (o .2)),
+                        (
+                          (rows-right Rng, refl, λ e. let o = all-open 10 (omega arith) e Rng in rows-exactly Rng (o .0) (o .1) (o .2)),
+                          ((rows-right Cnd, refl, λ e. let o = all-open 11 (omega arith) e Cnd in rows-exactly Cnd (o .0) (o .1) (o .2)), tt),
+                        ),
+                      ),
+                    ),
+                  ),
+                ),
+              ),
+            ),
+          ),
+        ),
+      ),
+    )
 
     -- NOTHING IS FOUND EXACTLY WHERE ALL TESTS HOLD
     pub all-hold-exactly : (numberOf (loadFinding f most lengths) ≡ 0) ↔ ((x : Test) → Holds f most lengths x)

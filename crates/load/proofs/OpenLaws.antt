@@ -1,4 +1,4 @@
--- What the four openings answered. Assumes nothing.
+-- What the four openings answered.
 use mathlib.Core.Path.{_≡_, refl, sym, ap, _∙_}
 use mathlib.Core.List.{List, [], _∷_}
 use Prim.Native.Nat.{ℕ}
@@ -52,4 +52,6 @@ module _ (f : Files) (most : ℕ) (e g h k : Opened) (pe : e ≡ openedOf (f .ed
           edg = ap (λ (o : Opened). o .table) pe i;
           fac = ap (λ (o : Opened). o .table) pg i;
           rng = ap (λ (o : Opened). o .table) ph i;
-          cnd = ap (λ (o : Opened). o .table) pk i } }
+          cnd = ap (λ (o : Opened). o .table) pk i;
+        };
+      }

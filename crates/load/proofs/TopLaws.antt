@@ -1,4 +1,12 @@
--- What all tests found, and what follows for the writing. Assumes nothing.
+-- What all tests found, and what follows for the writing.
+--
+-- The plan. The first of two findings is associative (`found-joined`), so the first of the whole list is the first of three parts: the
+-- openings, what fits (17, 15, 14), the rows (`load-in-three`). `judge` goes by these: `found-early` where the first two parts found
+-- something, `found-late` where the rows decide. Of what was judged, a finding is the answer (`load-refused`). Where nothing was found the
+-- answer is the counts (`load-tile`), and `both-found` takes the parts apart into what the writing needs: each of the ten columns is there
+-- (`edge-columns`, `column-7` to `column-10`), each lent column has room (`room`), no table has over 1,000,000 rows (`few-judged`), and all
+-- rows are accepted (`rows-judged-edg` to `rows-judged-cnd`). What is written over the judged tables is what the definition has
+-- (`written`).
 use mathlib.Core.Path.{_≡_, refl, sym, ap, subst, _∙_}
 use mathlib.Core.Bool.{false}
 use mathlib.Core.List.{List, [], _∷_, _++_}
@@ -25,7 +33,9 @@ use Rattle.load.specs.declared.Judged.{Judged}
 use Rattle.load.specs.declared.Loaded.the-variants.{Tile, Refused}
 use Rattle.load.specs.Sources.{Files, fileOf, indexOf, tableIn, tablesOf, typeFits, fitting, columnFor, columnsFor, atPlace, rowsFor}
 use Rattle.load.specs.Cells.{cellOf, EdgeColumns}
-use Rattle.load.specs.Load.{finding, noFinding, firstFound, firstFinding, openingTests, missing, columnFinding, emptyFinding, tooShort, roomAt, roomFinding, fitTests, RowsJudged, FewRows, rowTests, columnsOf, openedAll, fitFinding, allRowsFinding, loadFinding, judgedOf, counts, loadOf, cellsOf}
+use Rattle.load.specs.Load.{finding, noFinding, firstFound, firstFinding, openingTests, missing, columnFinding, emptyFinding, tooShort}
+use Rattle.load.specs.Load.{roomAt, roomFinding, fitTests, RowsJudged, FewRows, rowTests, columnsOf, openedAll, fitFinding}
+use Rattle.load.specs.Load.{allRowsFinding, loadFinding, judgedOf, counts, loadOf, cellsOf}
 
 -- ---- the first of two, of three, of lists
 
@@ -288,4 +298,3 @@ module _ (f : Files) (most : ℕ) (lengths : List ℕ) (j : Judged) (p : j ≡ j
     pub rows-judged-cnd : RowsJudged (f .cnd) (f .cnx) (j .tables .cnd)
     unfolding allRowsFinding
     rows-judged-cnd = all-judged _ _ (j .tables .cnd) (few-judged .3) (both-found _ _ (both-found _ _ (both-found _ _ (both-found _ _ rows-passed .1) .1) .1) .0)
-

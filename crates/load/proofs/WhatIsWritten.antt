@@ -1,5 +1,5 @@
 -- WHAT THE LOADER WRITES IS WHAT THE TABLES SAY: the cell of a right row of an opened table is its column's value, and so a function of
--- that row's own bytes. Assumes nothing.
+-- that row's own bytes.
 use mathlib.Core.Path.{_≡_, refl, sym, ap, _∙_}
 use mathlib.Core.Bool.{Bool, true, false, cond}
 use mathlib.Core.List.{List}

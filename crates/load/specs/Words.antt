@@ -14,7 +14,8 @@ use Rattle.header.specs.declared.Layout.{Layout}
 use Rattle.header.specs.Names.{sameText}
 use Rattle.header.specs.Words.{columnAt, AcceptedHeader}
 use Rattle.table.specs.declared.Value.{Value}
-use Rattle.table.specs.declared.Value.the-variants.{Short, ShortNull, Integer, IntegerNull, Float, FloatNull, Double, DoubleNull, Triplet, Text, Date, Coordinates, Empty, Refused}
+use Rattle.table.specs.declared.Value.the-variants.{Short, ShortNull, Integer, IntegerNull, Float, FloatNull, Double, DoubleNull, Triplet}
+use Rattle.table.specs.declared.Value.the-variants.{Text, Date, Coordinates, Empty, Refused}
 use Rattle.table.specs.Rows.{boundOf}
 use Rattle.opening.specs.Words as opening
 use Rattle.table.specs.Words as table

@@ -225,7 +225,8 @@ pub(crate) fn write_edges(
     requires { ⌜ table .rows ≤ mostRows ⌝ }
     requires { ⌜ RowsJudged (now file) (now index) table ⌝ }
     requires { ⌜ EdgeColumns (table .layout) columns ⌝ }
-    requires { ⌜ (table .rows ≤ length (now «start_node»)) × (table .rows ≤ length (now «end_node»)) × (table .rows ≤ length (now «right_face»)) × (table .rows ≤ length (now «left_face»)) × (table .rows ≤ length (now «right_edge»)) × (table .rows ≤ length (now «left_edge»)) ⌝ }
+    requires { ⌜ (table .rows ≤ length (now «start_node»)) × (table .rows ≤ length (now «end_node»)) × (table .rows ≤ length (now «right_face»)) ×
+            (table .rows ≤ length (now «left_face»)) × (table .rows ≤ length (now «right_edge»)) × (table .rows ≤ length (now «left_edge»)) ⌝ }
     ensures { λ _. ⌜ now («start_node» .exit) ≡ front (cellOf (now (file .entry)) (now (index .entry)) (table .layout) (atPlace columns 1)) (table .rows) (now («start_node» .entry)) ⌝ }
     ensures { λ _. ⌜ now («end_node» .exit) ≡ front (cellOf (now (file .entry)) (now (index .entry)) (table .layout) (atPlace columns 2)) (table .rows) (now («end_node» .entry)) ⌝ }
     ensures { λ _. ⌜ now («right_face» .exit) ≡ front (cellOf (now (file .entry)) (now (index .entry)) (table .layout) (atPlace columns 3)) (table .rows) (now («right_face» .entry)) ⌝ }

@@ -82,7 +82,8 @@ fn refusal_of(answer: Answer) -> Refusal
 
 // Opens the four tables: what the first that is refused says, and the tables.
 fn open_all(edg: &[u8], edx: &[u8], fac: &[u8], fax: &[u8], rng: &[u8], rnx: &[u8], cnd: &[u8], cnx: &[u8], most: usize) -> OpenedTables
-    ensures { λ r. ⌜ r ≡ openedAll (files (now (edg .entry)) (now (edx .entry)) (now (fac .entry)) (now (fax .entry)) (now (rng .entry)) (now (rnx .entry)) (now (cnd .entry)) (now (cnx .entry))) most ⌝ }
+    ensures { λ r. ⌜ r ≡ openedAll (files (now (edg .entry)) (now (edx .entry)) (now (fac .entry)) (now (fax .entry)) (now (rng .entry)) (now
+            (rnx .entry)) (now (cnd .entry)) (now (cnx .entry))) most ⌝ }
 {
     let e = opening::open_within(edg, edx, most);
     let f = opening::open_within(fac, fax, most);
@@ -109,7 +110,8 @@ fn open_all(edg: &[u8], edx: &[u8], fac: &[u8], fax: &[u8], rng: &[u8], rnx: &[u
 
 // The rows table by table.
 fn judge_all_rows(edg: &[u8], edx: &[u8], fac: &[u8], fax: &[u8], rng: &[u8], rnx: &[u8], cnd: &[u8], cnx: &[u8], tables: Tables) -> Finding
-    ensures { λ r. ⌜ r ≡ allRowsFinding (files (now (edg .entry)) (now (edx .entry)) (now (fac .entry)) (now (fax .entry)) (now (rng .entry)) (now (rnx .entry)) (now (cnd .entry)) (now (cnx .entry))) tables ⌝ }
+    ensures { λ r. ⌜ r ≡ allRowsFinding (files (now (edg .entry)) (now (edx .entry)) (now (fac .entry)) (now (fax .entry)) (now (rng .entry)) (now
+            (rnx .entry)) (now (cnd .entry)) (now (cnx .entry))) tables ⌝ }
 {
     let a = find(TableName::Edg, table::rows::judge_rows(edg, edx, tables.edg));
     let b = find(TableName::Fac, table::rows::judge_rows(fac, fax, tables.fac));
@@ -122,7 +124,8 @@ fn judge_all_rows(edg: &[u8], edx: &[u8], fac: &[u8], fax: &[u8], rng: &[u8], rn
 
 // All tests in order; rows only of a tile that passes those before them. `lengths` are those of the ten lent columns.
 fn judge(edg: &[u8], edx: &[u8], fac: &[u8], fax: &[u8], rng: &[u8], rnx: &[u8], cnd: &[u8], cnx: &[u8], most: usize, lengths: [usize; 10]) -> Judged
-    ensures { λ r. ⌜ r ≡ judgedOf (files (now (edg .entry)) (now (edx .entry)) (now (fac .entry)) (now (fax .entry)) (now (rng .entry)) (now (rnx .entry)) (now (cnd .entry)) (now (cnx .entry))) most lengths ⌝ }
+    ensures { λ r. ⌜ r ≡ judgedOf (files (now (edg .entry)) (now (edx .entry)) (now (fac .entry)) (now (fax .entry)) (now (rng .entry)) (now
+            (rnx .entry)) (now (cnd .entry)) (now (cnx .entry))) most lengths ⌝ }
 {
     let opened = open_all(edg, edx, fac, fax, rng, rnx, cnd, cnx, most);
     let tables = opened.tables;
@@ -157,17 +160,30 @@ pub fn load(
     start_edge: &mut [u32],
     first_edge: &mut [u32],
 ) -> Loaded
-    ensures { λ r. ⌜ r ≡ loadOf (files (now (edg .entry)) (now (edx .entry)) (now (fac .entry)) (now (fax .entry)) (now (rng .entry)) (now (rnx .entry)) (now (cnd .entry)) (now (cnx .entry))) most (lengthsOf (now («start_node» .entry)) (now («end_node» .entry)) (now («right_face» .entry)) (now («left_face» .entry)) (now («right_edge» .entry)) (now («left_edge» .entry)) (now («ring_ptr» .entry)) (now («fac_id» .entry)) (now («start_edge» .entry)) (now («first_edge» .entry))) ⌝ }
-    ensures { λ r. ⌜ now («start_node» .exit) ≡ columnLeft r (files (now (edg .entry)) (now (edx .entry)) (now (fac .entry)) (now (fax .entry)) (now (rng .entry)) (now (rnx .entry)) (now (cnd .entry)) (now (cnx .entry))) most Edg 1 (now («start_node» .entry)) ⌝ }
-    ensures { λ r. ⌜ now («end_node» .exit) ≡ columnLeft r (files (now (edg .entry)) (now (edx .entry)) (now (fac .entry)) (now (fax .entry)) (now (rng .entry)) (now (rnx .entry)) (now (cnd .entry)) (now (cnx .entry))) most Edg 2 (now («end_node» .entry)) ⌝ }
-    ensures { λ r. ⌜ now («right_face» .exit) ≡ columnLeft r (files (now (edg .entry)) (now (edx .entry)) (now (fac .entry)) (now (fax .entry)) (now (rng .entry)) (now (rnx .entry)) (now (cnd .entry)) (now (cnx .entry))) most Edg 3 (now («right_face» .entry)) ⌝ }
-    ensures { λ r. ⌜ now («left_face» .exit) ≡ columnLeft r (files (now (edg .entry)) (now (edx .entry)) (now (fac .entry)) (now (fax .entry)) (now (rng .entry)) (now (rnx .entry)) (now (cnd .entry)) (now (cnx .entry))) most Edg 4 (now («left_face» .entry)) ⌝ }
-    ensures { λ r. ⌜ now («right_edge» .exit) ≡ columnLeft r (files (now (edg .entry)) (now (edx .entry)) (now (fac .entry)) (now (fax .entry)) (now (rng .entry)) (now (rnx .entry)) (now (cnd .entry)) (now (cnx .entry))) most Edg 5 (now («right_edge» .entry)) ⌝ }
-    ensures { λ r. ⌜ now («left_edge» .exit) ≡ columnLeft r (files (now (edg .entry)) (now (edx .entry)) (now (fac .entry)) (now (fax .entry)) (now (rng .entry)) (now (rnx .entry)) (now (cnd .entry)) (now (cnx .entry))) most Edg 6 (now («left_edge» .entry)) ⌝ }
-    ensures { λ r. ⌜ now («ring_ptr» .exit) ≡ columnLeft r (files (now (edg .entry)) (now (edx .entry)) (now (fac .entry)) (now (fax .entry)) (now (rng .entry)) (now (rnx .entry)) (now (cnd .entry)) (now (cnx .entry))) most Fac 7 (now («ring_ptr» .entry)) ⌝ }
-    ensures { λ r. ⌜ now («fac_id» .exit) ≡ columnLeft r (files (now (edg .entry)) (now (edx .entry)) (now (fac .entry)) (now (fax .entry)) (now (rng .entry)) (now (rnx .entry)) (now (cnd .entry)) (now (cnx .entry))) most Rng 8 (now («fac_id» .entry)) ⌝ }
-    ensures { λ r. ⌜ now («start_edge» .exit) ≡ columnLeft r (files (now (edg .entry)) (now (edx .entry)) (now (fac .entry)) (now (fax .entry)) (now (rng .entry)) (now (rnx .entry)) (now (cnd .entry)) (now (cnx .entry))) most Rng 9 (now («start_edge» .entry)) ⌝ }
-    ensures { λ r. ⌜ now («first_edge» .exit) ≡ columnLeft r (files (now (edg .entry)) (now (edx .entry)) (now (fac .entry)) (now (fax .entry)) (now (rng .entry)) (now (rnx .entry)) (now (cnd .entry)) (now (cnx .entry))) most Cnd 10 (now («first_edge» .entry)) ⌝ }
+    ensures { λ r. ⌜ r ≡ loadOf (files (now (edg .entry)) (now (edx .entry)) (now (fac .entry)) (now (fax .entry)) (now (rng .entry)) (now
+            (rnx .entry)) (now (cnd .entry)) (now (cnx .entry))) most (lengthsOf (now («start_node» .entry)) (now («end_node» .entry)) (now
+            («right_face» .entry)) (now («left_face» .entry)) (now («right_edge» .entry)) (now («left_edge» .entry)) (now («ring_ptr» .entry)) (now
+            («fac_id» .entry)) (now («start_edge» .entry)) (now («first_edge» .entry))) ⌝ }
+    ensures { λ r. ⌜ now («start_node» .exit) ≡ columnLeft r (files (now (edg .entry)) (now (edx .entry)) (now (fac .entry)) (now (fax .entry)) (now
+            (rng .entry)) (now (rnx .entry)) (now (cnd .entry)) (now (cnx .entry))) most Edg 1 (now («start_node» .entry)) ⌝ }
+    ensures { λ r. ⌜ now («end_node» .exit) ≡ columnLeft r (files (now (edg .entry)) (now (edx .entry)) (now (fac .entry)) (now (fax .entry)) (now
+            (rng .entry)) (now (rnx .entry)) (now (cnd .entry)) (now (cnx .entry))) most Edg 2 (now («end_node» .entry)) ⌝ }
+    ensures { λ r. ⌜ now («right_face» .exit) ≡ columnLeft r (files (now (edg .entry)) (now (edx .entry)) (now (fac .entry)) (now (fax .entry)) (now
+            (rng .entry)) (now (rnx .entry)) (now (cnd .entry)) (now (cnx .entry))) most Edg 3 (now («right_face» .entry)) ⌝ }
+    ensures { λ r. ⌜ now («left_face» .exit) ≡ columnLeft r (files (now (edg .entry)) (now (edx .entry)) (now (fac .entry)) (now (fax .entry)) (now
+            (rng .entry)) (now (rnx .entry)) (now (cnd .entry)) (now (cnx .entry))) most Edg 4 (now («left_face» .entry)) ⌝ }
+    ensures { λ r. ⌜ now («right_edge» .exit) ≡ columnLeft r (files (now (edg .entry)) (now (edx .entry)) (now (fac .entry)) (now (fax .entry)) (now
+            (rng .entry)) (now (rnx .entry)) (now (cnd .entry)) (now (cnx .entry))) most Edg 5 (now («right_edge» .entry)) ⌝ }
+    ensures { λ r. ⌜ now («left_edge» .exit) ≡ columnLeft r (files (now (edg .entry)) (now (edx .entry)) (now (fac .entry)) (now (fax .entry)) (now
+            (rng .entry)) (now (rnx .entry)) (now (cnd .entry)) (now (cnx .entry))) most Edg 6 (now («left_edge» .entry)) ⌝ }
+    ensures { λ r. ⌜ now («ring_ptr» .exit) ≡ columnLeft r (files (now (edg .entry)) (now (edx .entry)) (now (fac .entry)) (now (fax .entry)) (now
+            (rng .entry)) (now (rnx .entry)) (now (cnd .entry)) (now (cnx .entry))) most Fac 7 (now («ring_ptr» .entry)) ⌝ }
+    ensures { λ r. ⌜ now («fac_id» .exit) ≡ columnLeft r (files (now (edg .entry)) (now (edx .entry)) (now (fac .entry)) (now (fax .entry)) (now
+            (rng .entry)) (now (rnx .entry)) (now (cnd .entry)) (now (cnx .entry))) most Rng 8 (now («fac_id» .entry)) ⌝ }
+    ensures { λ r. ⌜ now («start_edge» .exit) ≡ columnLeft r (files (now (edg .entry)) (now (edx .entry)) (now (fac .entry)) (now (fax .entry)) (now
+            (rng .entry)) (now (rnx .entry)) (now (cnd .entry)) (now (cnx .entry))) most Rng 9 (now («start_edge» .entry)) ⌝ }
+    ensures { λ r. ⌜ now («first_edge» .exit) ≡ columnLeft r (files (now (edg .entry)) (now (edx .entry)) (now (fac .entry)) (now (fax .entry)) (now
+            (rng .entry)) (now (rnx .entry)) (now (cnd .entry)) (now (cnx .entry))) most Cnd 10 (now («first_edge» .entry)) ⌝ }
 {
     let lengths = [
         start_node.len(),

@@ -1,4 +1,4 @@
--- The laws of numbers in bytes, over the width and the byte order. Assumes nothing.
+-- The laws of numbers in bytes, over the width and the byte order.
 use mathlib.Core.Path.{_≡_, refl, sym, ap, _∙_}
 use mathlib.Core.Logic.{by-cases}
 use mathlib.Core.List.{List, [], _∷_, _++_, reverse, reverseAux, reverse-cons, reverse-reverse, append-assoc}

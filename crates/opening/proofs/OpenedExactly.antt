@@ -1,5 +1,5 @@
 -- A TABLE OPENS EXACTLY WHEN its header is accepted and the rules of rows and index hold, with one number of rows; and it is refused
--- with a number at a place exactly when a test fails so and all earlier ones hold. Assumes nothing.
+-- with a number at a place exactly when a test fails so and all earlier ones hold.
 use mathlib.Core.Path.{_≡_, refl, sym, ap, _∙_}
 use mathlib.Core.Logic.{_↔_, inl, inr, ⊎-elim}
 use mathlib.Core.List.{List}

@@ -1,5 +1,13 @@
--- The tests of the opening in document 01's order: nothing is refused exactly where all of them hold, and a number at a place exactly
--- where one fails so while all earlier ones hold. Assumes nothing.
+-- The tests of the opening in document 01's order: nothing is refused exactly where all of them hold, and a number at a place exactly where
+-- one fails so while all earlier ones hold.
+--
+-- The plan. The definition is a nest: the header, an index that is there, the rows, then the tests of one width or those of an index.
+-- `one-after-the-other` lays it flat as seven refusals in a row: a test of the one case passes in the other (`flatten`). Each is then
+-- judged in words: the header by crate `header` (`judged-header`); and, where that is known to be accepted, which case it is (`no-width`,
+-- `one-width`), the rows that are said, as a quotient (`rows-exactly`), whole rows and no index (`fixed-exactly`), the index's head
+-- (`head-exactly`), its lowest entry that starts wrong (`start-exactly`), the end of the last row (`end-exactly`). `in-order` lines the
+-- seven up. No test both holds and fails (`not-both`), and none fails in two ways (`one-way`); so the law of tests in order (JudgedLaws)
+-- gives `all-hold-exactly` and `refused-exactly-when`.
 use mathlib.Core.Path.{_≡_, refl, sym, ap, subst, _∙_}
 use mathlib.Core.Logic.{_↔_, _⊎_, by-cases, inl, inr, ⊎-elim}
 use mathlib.Core.Bool.{Bool, true, false, cond, not, true≢false}
@@ -18,7 +26,8 @@ use Rattle.laws.proofs.TestLaws.{equal, not-unequal, wrong-unless, wrong-else}
 use Rattle.refusal.specs.declared.Refusal.{Refusal}
 use Rattle.refusal.specs.Order.{refusal, fine, refusedIf, located, first, firstOf}
 use Rattle.refusal.proofs.OrderLaws.{first-within}
-use Rattle.refusal.proofs.JudgedLaws.{Judged, InOrder, fine-exactly, refused-exactly, judged-lowest, judged-once, judged-where, asked-where, right-where, lowest-one, fails-not-each}
+use Rattle.refusal.proofs.JudgedLaws.{Judged, InOrder, fine-exactly, refused-exactly, judged-lowest, judged-once, judged-where, asked-where}
+use Rattle.refusal.proofs.JudgedLaws.{right-where, lowest-one, fails-not-each}
 use Rattle.grammar.specs.Words.{Reading}
 use Rattle.header.specs.declared.Layout.{Layout}
 use Rattle.header.specs.Judge.{headerRefusal}
@@ -188,8 +197,8 @@ module _ (file index : List ℕ) (most : ℕ) where
   unfolding headWrong sizeWrong
   head-exactly =
       let w = wrong-unless (eqb (length index) (8 + 8 * n)) _ (equal (length index) (8 + 8 * n))
-          (wrong-else (eqb (headerSize l index) (l .start)) (not (eqb (headerSize l index + 4) (l .start))) (equal (headerSize l index) (l .start))
-          (not-unequal (headerSize l index + 4) (l .start))) in
+      (wrong-else (eqb (headerSize l index) (l .start)) (not (eqb (headerSize l index + 4) (l .start))) (equal (headerSize l index) (l .start))
+      (not-unequal (headerSize l index + 4) (l .start))) in
       (λ e. let r = w .0 e in record { long = r .0; header-size = r .1 }, λ r. w .1 (r .long, r .header-size))
 
   start-exactly : (k : ℕ) → In n k → (entryWrong l index k ≡ false) ↔ StartsRight l index k
@@ -228,28 +237,66 @@ module _ (file index : List ℕ) (most : ℕ) where
   -- ---- in order: all after the header are judged where it is known to be accepted
   in-order : InOrder Test rank apart (Holds file index most) (FailsAt file index most) tests 0
   unfolding tests fixedRefusal
-  in-order =
-      ((header-accepted, refl, λ e. judged-header),
-      ((index-there, refl, λ e.
-        asked-where (needsIndex l) (NeedsIndex file) (no-width (e header-accepted (omega arith))) (ltb (length index) 8) 8 0 _ _ (λ z. omega arith)
-        (λ g. (ltb-false (length index) 8, ltb-true (length index) 8))),
-      ((rows-few, refl, λ e.
-        judged-once (ltb (min most mostRows) (rowsIn file index)) 15 0 _ _ (λ z. omega arith) (few-rows (e header-accepted (omega arith)))
-        (many-rows (e header-accepted (omega arith)))),
-      ((whole-rows, refl, λ e.
-        let a = e header-accepted (omega arith) in
-        right-where (not (needsIndex l)) (HasOneWidth file) (one-width a) _ 7 size (FixedRight file index) (λ z. omega arith)
-        (λ g. fixed-exactly (start-inside a) (says-one-width file g))),
-      ((index-head, refl, λ e.
-        right-where (needsIndex l) (NeedsIndex file) (no-width (e header-accepted (omega arith))) (headWrong l index) 8 0 (HeadRight l index) (λ z. omega arith)
-        (λ g. head-exactly)),
-      ((entries, refl, λ e.
-        judged-where (needsIndex l) _ (NeedsIndex file) _ (λ m p. (m ≡ 8) × LowestFailing n (StartsRight l index) p) (FailsAt file index most entries)
-        (no-width (e header-accepted (omega arith))) (λ m p g f. (f .0, g, f .1))
-        (λ g. judged-lowest (StartsRight l index) n 8 (λ z. omega arith) (entryWrong l index) start-exactly)),
-      ((last-end, refl, λ e.
-        right-where (needsIndex l) (NeedsIndex file) (no-width (e header-accepted (omega arith))) _ 8 n (EndsRight l index size n) (λ z. omega arith)
-        (λ g. end-exactly n)), tt)))))))
+  in-order = (
+    (header-accepted, refl, λ e. judged-header),
+    (
+      (
+        index-there,
+        refl,
+        λ e.
+            asked-where (needsIndex l) (NeedsIndex file) (no-width (e header-accepted (omega arith))) (ltb (length index) 8) 8 0 _ _ (λ z. omega arith)
+            (λ g. (ltb-false (length index) 8, ltb-true (length index) 8)),
+      ),
+      (
+        (
+          rows-few,
+          refl,
+          λ e.
+              judged-once (ltb (min most mostRows) (rowsIn file index)) 15 0 _ _ (λ z. omega arith) (few-rows (e header-accepted (omega arith)))
+              (many-rows (e header-accepted (omega arith))),
+        ),
+        (
+          (
+            whole-rows,
+            refl,
+            λ e.
+                let a = e header-accepted (omega arith) in
+                right-where (not (needsIndex l)) (HasOneWidth file) (one-width a) _ 7 size (FixedRight file index) (λ z. omega arith)
+                (λ g. fixed-exactly (start-inside a) (says-one-width file g)),
+          ),
+          (
+            (
+              index-head,
+              refl,
+              λ e.
+                  right-where (needsIndex l) (NeedsIndex file) (no-width (e header-accepted (omega arith))) (headWrong l index) 8 0 (HeadRight l index) (λ z. omega arith)
+                  (λ g. head-exactly),
+            ),
+            (
+              (
+                entries,
+                refl,
+                λ e.
+                    judged-where (needsIndex l) _ (NeedsIndex file) _ (λ m p. (m ≡ 8) × LowestFailing n (StartsRight l index) p) (FailsAt file index most entries)
+                    (no-width (e header-accepted (omega arith))) (λ m p g f. (f .0, g, f .1))
+                    (λ g. judged-lowest (StartsRight l index) n 8 (λ z. omega arith) (entryWrong l index) start-exactly),
+              ),
+              (
+                (
+                  last-end,
+                  refl,
+                  λ e.
+                      right-where (needsIndex l) (NeedsIndex file) (no-width (e header-accepted (omega arith))) _ 8 n (EndsRight l index size n) (λ z. omega arith)
+                      (λ g. end-exactly n),
+                ),
+                tt,
+              ),
+            ),
+          ),
+        ),
+      ),
+    ),
+  )
 
   -- ---- a test does not both hold and fail, nor fail in two ways
   not-both : (x : Test) (m p : ℕ) → FailsAt file index most x m p → Holds file index most x → ⊥

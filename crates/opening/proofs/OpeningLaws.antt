@@ -1,4 +1,4 @@
--- The laws of index entries, and of an opening that goes on after the header. Assumes nothing.
+-- The laws of index entries, and of an opening that goes on after the header.
 use mathlib.Core.Path.{_≡_, refl, sym, ap, _∙_}
 use mathlib.Core.Bool.{Bool, true, false, cond, not}
 use mathlib.Core.List.{List}
@@ -21,7 +21,8 @@ use Rattle.header.specs.Judge.{answered, headerRefusal}
 use Rattle.header.specs.Layouts.{headerOf}
 use Rattle.opening.specs.declared.Table.{Table}
 use Rattle.opening.specs.declared.Opened.{Opened}
-use Rattle.opening.specs.Opening.{mostRows, needsIndex, entriesSaid, offsetAt, lengthAt, endAt, entryWrong, headWrong, indexRefusal, rowsSaid, bodyRefusal, openRefusal, tableRefusal, tableFrom, noTable, openedAs, openedOf}
+use Rattle.opening.specs.Opening.{mostRows, needsIndex, entriesSaid, offsetAt, lengthAt, endAt, entryWrong, headWrong, indexRefusal}
+use Rattle.opening.specs.Opening.{rowsSaid, bodyRefusal, openRefusal, tableRefusal, tableFrom, noTable, openedAs, openedOf}
 
 module _ (l : Layout) (index : List ℕ) where
   -- where row 1 starts
@@ -100,8 +101,10 @@ module _ (l : Layout) (index : List ℕ) (size most : ℕ) where
   unfolding openRefusal
   open-rest h rows e u b q =
       sym
-      (first-passes (refusedIf lacks 8 0) (first (refusedIf (ltb (min most mostRows) (rowsSaid l index size)) 15 0) (first (bodyRefusal l index size) fine)) (ap (λ (t : Bool). refusedIf t 8 0 .number) h)
-      ∙ first-passes (refusedIf (ltb (min most mostRows) (rowsSaid l index size)) 15 0) (first (bodyRefusal l index size) fine) (ap (λ (t : Bool). refusedIf t 15 0 .number) (ap (ltb (min most mostRows)) (sym e) ∙ le-ltb (min most mostRows) rows u))
+      (first-passes (refusedIf lacks 8 0) (first (refusedIf (ltb (min most mostRows) (rowsSaid l index size)) 15 0) (first
+      (bodyRefusal l index size) fine)) (ap (λ (t : Bool). refusedIf t 8 0 .number) h)
+      ∙ first-passes (refusedIf (ltb (min most mostRows) (rowsSaid l index size)) 15 0) (first (bodyRefusal l index size) fine) (ap (λ
+      (t : Bool). refusedIf t 15 0 .number) (ap (ltb (min most mostRows)) (sym e) ∙ le-ltb (min most mostRows) rows u))
       ∙ ap (λ (r : Refusal). first r fine) (sym q))
 
 -- ---- the answer of a header
@@ -118,6 +121,7 @@ answered-refused q r e =
   where
     other : Accepted ≡ Refused r → _≡_ {A = ℕ} 0 1
     other e = cc
+
     same : Refused q ≡ Refused r → q ≡ r
     same e = cc
 

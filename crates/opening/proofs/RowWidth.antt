@@ -1,5 +1,4 @@
 -- ROWS HAVE NO ONE WIDTH EXACTLY WHERE a column has `*` or type K: what the layout's width says is what the header's reading says.
--- Assumes nothing.
 use mathlib.Core.Path.{_≡_, sym, _∙_}
 use mathlib.Core.Logic.{_↔_, _⊎_, inl, inr, ⊎-elim}
 use mathlib.Core.Bool.{true≢false}

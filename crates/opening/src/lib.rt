@@ -10,7 +10,8 @@ ghost use lib.ListN.{length};
 ghost use Rattle.laws.specs.Lowest.{lowest};
 ghost use Rattle.refusal.specs.Order.{fine, first};
 ghost use Rattle.header.specs.declared.Answer.the-variants as answer;
-ghost use Rattle.opening.specs.Opening.{mostRows, needsIndex, endAt, entryWrong, sizeWrong, headWrong, indexRefusal, fixedRefusal, rowsSaid, bodyRefusal, openRefusal, tableFrom, noTable, openedAs, openedOf};
+ghost use Rattle.opening.specs.Opening.{mostRows, needsIndex, endAt, entryWrong, sizeWrong, headWrong, indexRefusal, fixedRefusal};
+ghost use Rattle.opening.specs.Opening.{rowsSaid, bodyRefusal, openRefusal, tableFrom, noTable, openedAs, openedOf};
 
 // "15: over 1,000,000 rows"
 pub const MOST_ROWS: usize = 1000000;
@@ -227,6 +228,7 @@ pub fn open_within(file: &[u8], index: &[u8], most: usize) -> Opened
 }
 
 // Opens a table with its lent index.
+// Example: the ring table with L = 93 in a file of 121 bytes, and no index, has 2 rows of 12; one of 122 bytes is refused with 7 at 122.
 pub fn open_table(file: &[u8], index: &[u8]) -> Opened
     ensures { λ r. ⌜ r ≡ openedOf (now (file .entry)) (now (index .entry)) mostRows ⌝ }
 {

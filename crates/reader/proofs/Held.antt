@@ -2,10 +2,12 @@
 --     value-of, slice-value, Own, OwnSlice  a reader's machine value, a slice's, and what each owns
 --     typed, typed-local           whoever holds a reader knows the typing of its machine value; and in a local of a body
 --     remade, made                 what a reader owns with another number; and from a slice and a number
---     lends, lends-slice, lends-number     what a callee on the slice and the number asks, from a reader that is kept; of a slice, and of a slice and a number, from a slice that is kept
+-- lends, lends-slice, lends-number what a callee on the slice and the number asks, from a reader that is kept; of a slice, and of a slice
+-- and a number, from a slice that is kept
 --     gives-up                     what a callee of one value asks, the value given up
 --     answer-typed                 the typing of an answer's machine value
---     OfSlice, of-slice, leaves    a function of a slice and of the parameters ps beside it meets its contract, by a walk; and how such a walk ends: at a result, from what the result owns, the token, and what is had of the parameters
+-- OfSlice, of-slice, leaves a function of a slice and of the parameters ps beside it meets its contract, by a walk; and how such a walk
+-- ends: at a result, from what the result owns, the token, and what is had of the parameters
 --     number, number-stays, of-slice-number    the same with one number beside the slice
 -- Assumes `Given`.
 use mathlib.Core.Path.{_≡_, refl}

@@ -1,4 +1,5 @@
--- A reader in a local is lent for a call by `&mut`, and comes back. The loan's lifetime is ν ∷ κ, the meet of a new one and the reader's own, so that the reader's outlives it.
+-- A reader in a local is lent for a call by `&mut`, and comes back. The loan's lifetime is ν ∷ κ, the meet of a new one and the reader's
+-- own, so that the reader's outlives it.
 --     lies-in, lies-out    a local's cell with what its reader owns is the reader in memory, and back, at its machine value written out
 --     lends-local          the reader in memory and its token ⊢ ⇛ ∃ ν γ. the reference and the callee's tokens, and what the lender keeps
 --     local-back           what the lender keeps, the callee's tokens, and what says the last value ⊢ ⇛ the reader in memory at that value, and its token
@@ -19,7 +20,8 @@ use prog.Wp.{Heap, Env, Calls, Loops}
 use ghost.Atoms.{Atoms, sem}
 use contract.BorrowLft.{meet-⊑-left, meet-⊑-right}
 use contract.Monad.{Fun}
-use types.Kit.{Given, Item, Post, Seq, runs, lands, drop, mean, ‵, raw, _⊛_, some, later, _$_, _∵_, !, qed, move, use1, use2, use3, split, join, pick, fsplit, fjoin, fpick, fpack, apply, await, updating, now as at-once, show, done}
+use types.Kit.{Given, Item, Post, Seq, runs, lands, drop, mean, ‵, raw, _⊛_, some, later, _$_, _∵_, !, qed, move, use1, use2, use3, split}
+use types.Kit.{join, pick, fsplit, fjoin, fpick, fpack, apply, await, updating, now as at-once, show, done}
 use types.Run.{Opds}
 use types.SemTy.{Body}
 use sound.WpLaws.{FmC}

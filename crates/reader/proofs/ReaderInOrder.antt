@@ -1,6 +1,6 @@
 -- A new reader gives the columns of the header's reading in order, each step moving past exactly one printed definition, and then
 -- the end, at which it stays. A step that gives a column at any place does just that; every other place is 13, and a refused header
--- gives its refusal wherever the reader stands. Assumes nothing.
+-- gives its refusal wherever the reader stands.
 use mathlib.Core.Path.{_≡_, refl, sym, ap, subst, _∙_}
 use mathlib.Core.Logic.{by-cases, inl, inr, ⊎-elim}
 use mathlib.Core.Bool.{Bool, true, false, false≢true}
@@ -95,6 +95,6 @@ module _ (file : RefT (List ℕ)) (h : Reading) (a : AcceptedHeader (now file) h
       no-column (Refused (refusal 13 place)) refl
       (elsewhere place (λ k l q. none (suc k) (omega arith, omega arith) (ap (λ (r : Reader). r .at) (q ∙ sym (after-steps k)))) .given))
       (some-or-none (λ k. place ≡ place-after (pred k)) (suc columns) (λ k i. by-cases (ℕ-discrete place (place-after (pred k))) inl inr))
-      where
-        no-column : {C : Type 0} (s : Step) → isColumn s ≡ false → gives (readerAt file place) ≡ s → C
-        no-column s f g = absurd (false≢true (sym f ∙ ap isColumn (sym g ∙ e)))
+    where
+      no-column : {C : Type 0} (s : Step) → isColumn s ≡ false → gives (readerAt file place) ≡ s → C
+      no-column s f g = absurd (false≢true (sym f ∙ ap isColumn (sym g ∙ e)))

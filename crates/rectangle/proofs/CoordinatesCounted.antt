@@ -1,5 +1,5 @@
 -- THE COORDINATES OF A RECTANGLE ARE ALL THAT THE FIELD HAS: in a right row of an opened table they are as many as the `*` field's count
--- says, or the column's, so that no coordinate is left out and nothing else is read as one. Assumes nothing.
+-- says, or the column's, so that no coordinate is left out and nothing else is read as one.
 use mathlib.Core.Path.{_≡_, refl, sym, ap, subst, _∙_}
 use mathlib.Core.Logic.{⊎-elim}
 use mathlib.Core.Bool.{false}

@@ -1,6 +1,6 @@
 -- WHAT THE RECTANGLE OF A COLUMN IN A ROW IS: one is answered exactly when the row is accepted, the column is there and of C, Z, B or
 -- Y, there is a coordinate and every x and y is finite; then it is the rectangle of these coordinates and no other; and which
--- refusal is given instead, exactly when. Over any table, opened or made by anybody. Assumes nothing.
+-- refusal is given instead, exactly when. Over any table, opened or made by anybody.
 use mathlib.Core.Path.{_≡_, refl, sym, ap, subst, _∙_}
 use mathlib.Core.Logic.{_↔_, _⊎_, inl, inr, ⊎-elim}
 use mathlib.Core.Bool.{Bool, true, false, true≢false}

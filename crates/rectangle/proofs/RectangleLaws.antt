@@ -1,5 +1,5 @@
 -- The types with coordinates, and that what is found in a value is what is found in its row: a value of such a type is refused only with
--- its row. Assumes nothing.
+-- its row.
 use mathlib.Core.Path.{_≡_, refl, sym, ap, _∙_}
 use mathlib.Core.Logic.{_⊎_, inl, inr, ⊎-elim}
 use mathlib.Core.Bool.{true, false, true≢false}

@@ -1,5 +1,5 @@
 -- Tests in order, each judged in words while the earlier ones hold: then so is the first refusal. And tests of every row, judged
--- at the lowest row that fails. Assumes nothing.
+-- at the lowest row that fails.
 use mathlib.Core.Path.{_≡_, refl, sym, ap, subst, _∙_}
 use mathlib.Core.Logic.{_↔_, by-cases, _⊎_, inl, inr, ⊎-elim}
 use mathlib.Core.Bool.{Bool, true, false, cond, true≢false}

@@ -1,4 +1,4 @@
--- The laws of tests in order: what a loop over rows needs, and what the first refusal of a list says. Assumes nothing.
+-- The laws of tests in order: what a loop over rows needs, and what the first refusal of a list says.
 use mathlib.Core.Path.{_≡_, refl, sym, ap, _∙_}
 use mathlib.Core.Bool.{Bool, true, false, true≢false}
 use mathlib.Core.List.{List, [], _∷_, _++_, append-nil}

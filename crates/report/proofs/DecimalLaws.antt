@@ -1,5 +1,4 @@
 -- Decimal digits: one digit below ten, and else the digits of the tenth with the last one behind them; never more than 20 of them.
--- Assumes nothing.
 use mathlib.Core.Path.{_≡_, refl, sym, ap, _∙_}
 use mathlib.Core.Logic.{by-cases}
 use mathlib.Core.List.{List, [], _∷_, _++_}

@@ -1,5 +1,4 @@
 -- What `decimal` writes: digits alone, that say the number (as the header's digits do), the first of them no 0 but of the number 0.
--- Assumes nothing.
 use mathlib.Core.Path.{_≡_, refl, sym, ap, subst, _∙_}
 use mathlib.Core.Logic.{by-cases}
 use mathlib.Core.List.{List, [], _∷_, _++_}

@@ -1,4 +1,4 @@
--- The lines of document 01, byte for byte, as one table under a single statement. Assumes nothing.
+-- The lines of document 01, byte for byte, as one table under a single statement.
 use mathlib.Core.Path.{_≡_, refl}
 use mathlib.Core.List.{List, [], _∷_}
 use Prim.Native.Nat.{ℕ}

@@ -1,4 +1,4 @@
--- A number written digit by digit: the only one, or the last one behind those of the tenth. Assumes nothing.
+-- A number written digit by digit: the only one, or the last one behind those of the tenth.
 use mathlib.Core.Path.{_≡_, refl, sym, ap, _∙_}
 use mathlib.Core.List.{List, [], _∷_, _++_}
 use Prim.Native.Nat.{ℕ, _+_, _/_, _%_, _^_, _≤_, _<_}

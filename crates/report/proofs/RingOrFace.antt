@@ -1,6 +1,5 @@
 -- "rng or fac for 28 by its place": the check tests every ring's face before any face's run, so the file that the place gives is the
 -- table that the failed test went through.
--- Assumes nothing.
 use mathlib.Core.Path.{_≡_, refl, _∙_}
 use mathlib.Core.Bool.{Bool, true, false, cond}
 use mathlib.Core.List.{List}

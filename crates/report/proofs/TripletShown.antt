@@ -1,6 +1,5 @@
 -- "cnx's once cnd's header is accepted and shows K": a refused header shows none, and an accepted one shows it exactly when one of its
 -- columns is a triplet.
--- Assumes nothing.
 use mathlib.Core.Path.{_≡_, refl, sym}
 use mathlib.Core.Logic.{_↔_}
 use mathlib.Core.Bool.{true, false}

@@ -1,5 +1,4 @@
 -- The steps of the successor's code: four rows read and the side chosen of them; the right and the left side followed.
--- Assumes nothing.
 use mathlib.Core.Path.{_≡_, refl, _∙_}
 use mathlib.Core.Bool.{Bool, true, false, _&&_, _||_, true≢false}
 use mathlib.Core.List.{_++_}

@@ -1,6 +1,5 @@
 -- The successor, or the number of what is wrong at a side, is exactly what document 01 says in words: each answer where its words
 -- hold, and no two answers' words hold at one side. Nothing is asked of the columns or of the side number (side 0 has no link).
--- Assumes nothing.
 use mathlib.Core.Path.{_≡_, refl, sym, ap, _∙_}
 use mathlib.Core.Logic.{_↔_, by-cases, _⊎_, inl, inr, ⊎-elim}
 use mathlib.Core.Bool.{true, false, true≢false}

@@ -74,7 +74,8 @@ fn follow(
     node: u32,
     face: u32,
 ) -> Successor
-    ensures { λ r. ⌜ r ≡ leavingEdge (edges (now («start_node» .entry)) (now («end_node» .entry)) (now («right_face» .entry)) (now («left_face» .entry)) (now («right_edge» .entry)) (now («left_edge» .entry))) k node face ⌝ }
+    ensures { λ r. ⌜ r ≡ leavingEdge (edges (now («start_node» .entry)) (now («end_node» .entry)) (now («right_face» .entry)) (now
+            («left_face» .entry)) (now («right_edge» .entry)) (now («left_edge» .entry))) k node face ⌝ }
 {
     let e = k as usize;
     if e == 0 {
@@ -95,6 +96,8 @@ fn follow(
 }
 
 // The successor of the side s: the right side continues on right_edge from end_node, the left one on left_edge from start_node.
+// Example: in tile MJ21 (edges A-B, B-C, C-A; right edges 2, 3, 1; left 3, 1, 2) side 1 goes to 3, and side 2 to 6, the left side of edge
+// 3, which ends in A. With left edge 2 of edge 1, side 2 has 23: edge B-C does not touch A.
 pub fn next_side(
     start_node: &[u32],
     end_node: &[u32],
@@ -104,7 +107,8 @@ pub fn next_side(
     left_edge: &[u32],
     s: usize,
 ) -> Successor
-    ensures { λ r. ⌜ r ≡ successor (edges (now («start_node» .entry)) (now («end_node» .entry)) (now («right_face» .entry)) (now («left_face» .entry)) (now («right_edge» .entry)) (now («left_edge» .entry))) s ⌝ }
+    ensures { λ r. ⌜ r ≡ successor (edges (now («start_node» .entry)) (now («end_node» .entry)) (now («right_face» .entry)) (now
+            («left_face» .entry)) (now («right_edge» .entry)) (now («left_edge» .entry))) s ⌝ }
 {
     let e = s / 2 + s % 2;
     if s % 2 == 1 {

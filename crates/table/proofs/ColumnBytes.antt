@@ -1,4 +1,4 @@
--- The bytes of a field whose count must be 1: those of its type, and so within its row. Assumes nothing.
+-- The bytes of a field whose count must be 1: those of its type, and so within its row.
 use mathlib.Core.Path.{_≡_, sym, ap, subst, _∙_}
 use mathlib.Core.Logic.{inl, ⊎-elim}
 use mathlib.Core.Bool.{true, false, true≢false}
@@ -43,8 +43,8 @@ one-element c x sound laid none kind =
     (λ w.
     let one : decimal 0 (c .count) ≡ 1 = eqb-true (decimal 0 (c .count)) 1 (rw (ap starOf same ∙ none) at (w .1)) in
     let fixed : Varies c → ⊥ =
-        ⊎-elim (λ e. numeral-not-star (subst Numeral e (w .0)))
-        (λ e. kind (triplet-kind (x .kind) .0 (eq-eqb (letterOf (x .kind)) letterK (letter-of-type (c .type) (x .kind) (laid .kind) ∙ e)))) in (
+    ⊎-elim (λ e. numeral-not-star (subst Numeral e (w .0)))
+    (λ e. kind (triplet-kind (x .kind) .0 (eq-eqb (letterOf (x .kind)) letterK (letter-of-type (c .type) (x .kind) (laid .kind) ∙ e)))) in (
       bool-cases (x .star) (λ b. absurd (fixed (inl (laid .star .0 b)))) (λ b. b),
       laid .fixed-size fixed ∙ ap (λ (n : ℕ). n * widthOf (x .kind)) (laid .count (w .0) ∙ one) ∙ omega arith,
     ))

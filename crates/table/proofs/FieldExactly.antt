@@ -1,5 +1,5 @@
 -- Where a field ends, in words, by its type; and that the walk over a row's columns finds their places exactly where the fields follow
--- one another so. Assumes nothing.
+-- one another so.
 use mathlib.Core.Path.{_≡_, refl, sym, ap, _∙_}
 use mathlib.Core.Logic.{_↔_, by-cases, inl, inr, ⊎-elim}
 use mathlib.Core.Bool.{true, false, true≢false}

@@ -1,4 +1,4 @@
--- Where a field ends: within its row, and without wrapping. Assumes nothing.
+-- Where a field ends: within its row, and without wrapping.
 use mathlib.Core.Path.{_≡_, refl}
 use mathlib.Core.List.{List}
 use Prim.Native.Nat.{ℕ, _+_, _-_, _*_, _≤_, _<_}

@@ -1,4 +1,4 @@
--- A row's fields found by one walk, or by offsets. Assumes nothing.
+-- A row's fields found by one walk, or by offsets.
 use mathlib.Core.Path.{_≡_, ap, _∙_}
 use mathlib.Core.Bool.{false}
 use mathlib.Core.List.{List}
@@ -10,7 +10,8 @@ use Rattle.header.specs.declared.Layout.{Layout}
 use Rattle.header.specs.Judge.{mostColumns}
 use Rattle.table.specs.declared.Places.{Places}
 use Rattle.table.specs.declared.Found.{Found}
-use Rattle.table.specs.Rows.{columnsOf, noSuchColumn, reach, placeOfColumn, walked, slotsFor, keptFor, idRefusal, usedUp, offsetPlace, columnPlace, fieldsRefusal, foundOf}
+use Rattle.table.specs.Rows.{columnsOf, noSuchColumn, reach, placeOfColumn, walked, slotsFor, keptFor, idRefusal, usedUp, offsetPlace}
+use Rattle.table.specs.Rows.{columnPlace, fieldsRefusal, foundOf}
 use Rattle.table.proofs.RowLaws.{such}
 use Rattle.table.proofs.SlotLaws.{kept-for, slot-alone-k, slot-alone-id}
 

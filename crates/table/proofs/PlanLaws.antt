@@ -1,5 +1,5 @@
 -- A row judged by plain numbers is judged as its layout says, and its columns are found where they start by the layout; and a loop that
--- judges the rows so answers for the lowest. Assumes nothing.
+-- judges the rows so answers for the lowest.
 use mathlib.Core.Path.{_≡_, refl, sym, ap, _∙_}
 use mathlib.Core.Logic.{by-cases}
 use mathlib.Core.Bool.{Bool, true, false, cond}
@@ -26,8 +26,10 @@ use Rattle.header.specs.Judge.{mostColumns}
 use Rattle.table.specs.declared.Reach.{Reach}
 use Rattle.table.specs.declared.Reach.the-variants.{At}
 use Rattle.opening.specs.Opening.{endAt}
-use Rattle.table.specs.Rows.{columnsOf, columnAt, noSuchColumn, boundOf, outside, plainEnd, starEnd, tripletEnd, fieldEnd, onward, reach, placeOf, keep, keptBy, keptFor, columnPlace, usedUp, idJudged, fieldsRefusal, rowRefusal, rowJudged}
-use Rattle.table.specs.Plans.{idOffset, fixedBound, fixedRow, entryEnd, walkedBound, boundBy, tripletCode, starCode, fixedCode, codeOf, codeAt, planOf, codeEnd, planReach, plannedFields, plannedRow, plannedPlaces}
+use Rattle.table.specs.Rows.{columnsOf, columnAt, noSuchColumn, boundOf, outside, plainEnd, starEnd, tripletEnd, fieldEnd, onward}
+use Rattle.table.specs.Rows.{reach, placeOf, keep, keptBy, keptFor, columnPlace, usedUp, idJudged, fieldsRefusal, rowRefusal, rowJudged}
+use Rattle.table.specs.Plans.{idOffset, fixedBound, fixedRow, entryEnd, walkedBound, boundBy, tripletCode, starCode, fixedCode, codeOf}
+use Rattle.table.specs.Plans.{codeAt, planOf, codeEnd, planReach, plannedFields, plannedRow, plannedPlaces}
 use Rattle.table.proofs.FieldLaws.{plain-within, star-within, triplet-within}
 use Rattle.table.proofs.WalkLaws.{stays-so, kept-stays}
 use Rattle.table.proofs.RowLaws.{such, judged-early, judged-late}
@@ -90,7 +92,7 @@ module _ (s : List ℕ) (l : Layout) (start end : ℕ) where
   plan-reach zero h = refl
   plan-reach (suc n) h =
       let e : (p : ℕ) → codeEnd (l .order) s end (getD (planOf l) n 0) p ≡ fieldEnd (l .order) s end (columnAt l (suc n)) p =
-          λ p. rw (plan-at l n (omega arith)) (code-says (l .order) s end p (columnAt l (suc n))) in
+      λ p. rw (plan-at l n (omega arith)) (code-says (l .order) s end p (columnAt l (suc n))) in
       ap (λ (x : Reach). onward x (λ p. codeEnd (l .order) s end (getD (planOf l) n 0) p)) (plan-reach n (omega arith))
       ∙ ap (onward (reach s l start end n)) (λ t p. e p t)
 
@@ -264,14 +266,14 @@ module _ (s index : List ℕ) (l : Layout) where
       → lowestOf (fixedAt (l .order) s missing offset (l .start) (l .width)) n ≡ lowestOf (rowJudged s index l) n
   fixed-rows z n missing offset a b =
       let e : (i : ℕ) → fixedAt (l .order) s missing offset (l .start) (l .width) i ≡ rowJudged s index l i =
-          λ i. rw (a, b, bound-fixed index l z (pred i), bound-fixed index l z i)
-          (fixed-row s l (fixedBound (l .start) (l .width) (pred i)) (fixedBound (l .start) (l .width) i) i z) in
+      λ i. rw (a, b, bound-fixed index l z (pred i), bound-fixed index l z i)
+      (fixed-row s l (fixedBound (l .start) (l .width) (pred i)) (fixedBound (l .start) (l .width) i) i z) in
       ap (λ (f : ℕ → Refusal). lowestOf f n) (λ t i. e i t)
 
   pub walked-rows : l .width ≡ 0 → (n columns : ℕ) (plan : List ℕ) → columns ≡ columnsOf l → plan ≡ planOf l
       → lowestOf (walkedAt (l .order) s index plan columns (l .id) (l .start)) n ≡ lowestOf (rowJudged s index l) n
   walked-rows z n columns plan a b =
       let e : (i : ℕ) → walkedAt (l .order) s index plan columns (l .id) (l .start) i ≡ rowJudged s index l i =
-          λ i. rw (a, b, bound-walked index l z (pred i), bound-walked index l z i)
-          (planned-row s l (walkedBound (l .order) index (l .start) (pred i)) (walkedBound (l .order) index (l .start) i) i z) in
+      λ i. rw (a, b, bound-walked index l z (pred i), bound-walked index l z i)
+      (planned-row s l (walkedBound (l .order) index (l .start) (pred i)) (walkedBound (l .order) index (l .start) i) i z) in
       ap (λ (f : ℕ → Refusal). lowestOf f n) (λ t i. e i t)

@@ -1,5 +1,5 @@
 -- A ROW OF AN OPENED TABLE IS FINE EXACTLY WHEN its fields, read in column order, use exactly its bytes and its id is its number; and in
--- a table of one width the places by offset are those of the walk. Assumes nothing.
+-- a table of one width the places by offset are those of the walk.
 use mathlib.Core.Path.{_≡_, refl, sym, ap, _∙_}
 use mathlib.Core.Logic.{_↔_, inl, inr}
 use mathlib.Core.Bool.{false, not}

@@ -1,4 +1,4 @@
--- What the tests before a row's fields say: that the row lies inside the file, that a column or row is there. Assumes nothing.
+-- What the tests before a row's fields say: that the row lies inside the file, that a column or row is there.
 use mathlib.Core.Path.{_≡_, sym, _∙_}
 use mathlib.Core.Bool.{Bool, false}
 use mathlib.Core.List.{List}
@@ -46,6 +46,7 @@ place-fine s l start end i q u z =
   where
     ten : _≡_ {A = ℕ} 10 0 → _≡_ {A = ℕ} 0 1
     ten e = omega arith
+
     nine : _≡_ {A = ℕ} 9 0 → _≡_ {A = ℕ} 0 1
     nine e = omega arith
 

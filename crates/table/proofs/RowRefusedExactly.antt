@@ -1,6 +1,11 @@
--- A ROW OF AN OPENED TABLE IS REFUSED WITH n AT p EXACTLY WHEN: the first column whose field is not there is not of type K (10 at the
--- row), or is and the triplet is bad at p (11); or all fields are there and do not use up the row (10); or they do and the id is wrong
--- (9). Assumes nothing.
+-- A ROW OF AN OPENED TABLE IS REFUSED WITH n AT p EXACTLY WHEN: the first column whose field is not there is not of type K (10 at the row),
+-- or is and the triplet is bad at p (11); or all fields are there and do not use up the row (10); or they do and the id is wrong (9).
+--
+-- The plan. A field that is not there is `Cut` exactly where it is a bad triplet (`cut-exactly`), and `Short` exactly where it is none and
+-- has no end in the row (`short-exactly`). A walk that did not come through stopped at one column, before which all fields are there
+-- (`stops-at`), and one that stops at a column stays so to the last (`stops-through`). A row is judged by how its walk ends (`judged`). So
+-- what the judgement says is one of the four in words (`said`, by the cases of the walk's end), and each of the four leads the walk to its
+-- end: `missing`, `bad`, `not-used-up`, `id-wrong`. Both ways together are `row-refused-exactly`.
 use mathlib.Core.Path.{_≡_, refl, sym, ap, subst, _∙_}
 use mathlib.Core.Logic.{_↔_, inl, inr, ⊎-elim}
 use mathlib.Core.List.{List}
@@ -30,7 +35,8 @@ use Rattle.opening.specs.declared.Table.{Table}
 use Rattle.table.specs.declared.Reach.{Reach}
 use Rattle.table.specs.declared.Reach.the-variants.{At, Short, Cut}
 use Rattle.table.specs.declared.Row.the-variants.{Refused}
-use Rattle.table.specs.Rows.{columnAt, boundOf, plainEnd, starEnd, pastTriplet, tripletEnd, fieldEnd, onward, reach, placeOf, placeOfColumn, idAt, idRefusal, usedUp, rowRefusal, rowOf}
+use Rattle.table.specs.Rows.{columnAt, boundOf, plainEnd, starEnd, pastTriplet, tripletEnd, fieldEnd, onward, reach, placeOf}
+use Rattle.table.specs.Rows.{placeOfColumn, idAt, idRefusal, usedUp, rowRefusal, rowOf}
 use Rattle.opening.specs.Words.{layoutOf, Opens}
 use Rattle.table.specs.Words.{FieldEnds, Begun, FieldMissing, TripletBad, NotUsedUp, IdWrong, RowRefused}
 use Rattle.table.proofs.WalkLaws.{stays, reach-within}

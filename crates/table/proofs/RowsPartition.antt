@@ -1,5 +1,5 @@
 -- IN AN OPENED TABLE THE ROWS PARTITION THE BODY: the first starts at L + 4, each next where the last ended, the last ends with the
--- file, and every byte of the body lies in exactly one row. Assumes nothing.
+-- file, and every byte of the body lies in exactly one row.
 use mathlib.Core.Path.{_≡_, refl, sym, _∙_}
 use mathlib.Core.Logic.{_↔_, inl, inr, ⊎-elim}
 use mathlib.Core.List.{List}
@@ -82,10 +82,13 @@ module _ (file index : List ℕ) (most : ℕ) (h : Reading) (n : ℕ) (o : Opens
         ⊎-elim
         (λ w.
         let q = one-width-exactly file h (o .header) .1 (w .0) in
-        inl ((h, o .header, w .0), record {
-          starts = e .0 ∙ bound-fixed l index (pred i) q;
-          ends = omega (arith, e .0, e .1, row-width q i r);
-        }))
+        inl (
+          (h, o .header, w .0),
+          record {
+            starts = e .0 ∙ bound-fixed l index (pred i) q;
+            ends = omega (arith, e .0, e .1, row-width q i r);
+          },
+        ))
         (λ w.
         let b = by-entry (no-width-exactly file h (o .header) .1 (w .0)) in
         inr ((h, o .header, w .0), record { starts = omega (arith, e .0, b .0); ends = omega (arith, e .0, e .1, b .0, b .1) }))

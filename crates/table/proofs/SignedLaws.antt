@@ -1,4 +1,4 @@
--- Numbers in two's complement: those of the upper half of the patterns. Assumes nothing.
+-- Numbers in two's complement: those of the upper half of the patterns.
 use mathlib.Core.Path.{_≡_, refl, sym, ap, _∙_}
 use Prim.Native.Nat.{ℕ, zero, suc, _+_, _-_, _^_, _≤_, _<_}
 use native.Mathlib.Omega.{arith}

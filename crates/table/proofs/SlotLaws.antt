@@ -1,4 +1,4 @@
--- The places that a walk keeps: a slot that one column alone asks for keeps where that column starts. Assumes nothing.
+-- The places that a walk keeps: a slot that one column alone asks for keeps where that column starts.
 use mathlib.Core.Path.{_≡_, refl, sym, ap, subst, _∙_}
 use mathlib.Core.Logic.{by-cases}
 use mathlib.Core.List.{List}
@@ -91,18 +91,21 @@ module _ (id k : ℕ) (i : 0 < id) (i′ : id ≤ mostColumns) (h : 0 < k) (h′
 
   -- each of the two columns has a slot of its own
   pub slot-alone-k : Alone (slotsFor id k) k
-  slot-alone-k =
-      (omega (arith, slot-k),
-      λ j z e. by-cases (ℕ-discrete j k) (λ t. t)
-      (λ t. by-cases (ℕ-discrete j id)
-      (λ u. let v : getD once (pred j) 0 ≡ 1 = ap (λ (x : ℕ). getD once (pred x) 0) u ∙ once-id in absurd (omega (arith, slot-k, slot-not-k j z t)))
-      (λ u. absurd (omega (arith, slot-k, slot-not-k j z t, once-other j z u)))))
+  slot-alone-k = (
+    omega (arith, slot-k),
+    λ j z e. by-cases (ℕ-discrete j k) (λ t. t)
+        (λ t. by-cases (ℕ-discrete j id)
+        (λ u. let v : getD once (pred j) 0 ≡ 1 = ap (λ (x : ℕ). getD once (pred x) 0) u ∙ once-id in absurd (omega (arith, slot-k, slot-not-k j z t)))
+        (λ u. absurd (omega (arith, slot-k, slot-not-k j z t, once-other j z u)))),
+  )
 
   pub slot-alone-id : Alone (slotsFor id k) id
   slot-alone-id =
       by-cases (ℕ-discrete id k)
       (λ t. subst (λ (c : ℕ). Alone (slotsFor id k) c) (sym t) slot-alone-k)
-      (λ t. (omega (arith, slot-not-k id i t, once-id),
-      λ j z e. by-cases (ℕ-discrete j k)
-      (λ u. let v : slotOf (slotsFor id k) j ≡ 2 = ap (slotOf (slotsFor id k)) u ∙ slot-k in absurd (omega (arith, slot-not-k id i t, once-id)))
-      (λ u. by-cases (ℕ-discrete j id) (λ w. w) (λ w. absurd (omega (arith, slot-not-k id i t, once-id, slot-not-k j z u, once-other j z w))))))
+      (λ t. (
+        omega (arith, slot-not-k id i t, once-id),
+        λ j z e. by-cases (ℕ-discrete j k)
+            (λ u. let v : slotOf (slotsFor id k) j ≡ 2 = ap (slotOf (slotsFor id k)) u ∙ slot-k in absurd (omega (arith, slot-not-k id i t, once-id)))
+            (λ u. by-cases (ℕ-discrete j id) (λ w. w) (λ w. absurd (omega (arith, slot-not-k id i t, once-id, slot-not-k j z u, once-other j z w)))),
+      ))

@@ -1,4 +1,4 @@
--- The value of a column: the row's refusal, or what its field says. Assumes nothing.
+-- The value of a column: the row's refusal, or what its field says.
 use mathlib.Core.Path.{_≡_}
 use Prim.Native.Nat.{ℕ}
 use borrow.Author.Tests.{eq-eqb, ne-eqb}

@@ -1,5 +1,13 @@
--- EACH VALUE IS A FUNCTION OF ITS ROW'S OWN BYTES: two files that have the same bytes there give the row the same judgement and the
--- column the same value, and a part that is shown lies inside the row. Assumes nothing.
+-- EACH VALUE IS A FUNCTION OF ITS ROW'S OWN BYTES: two files that have the same bytes there give the row the same judgement and the column
+-- the same value, and a part that is shown lies inside the row.
+--
+-- The plan. In two files with the same bytes from start to end, every part inside is the same (`part-same`), and so is every number
+-- (`number-same`). Hence a field ends at the same place (`field-same`), and by induction on the columns the walk comes to the same places
+-- (`reach-same`), all inside since it does not go back (`reach-after`). So the row's judgement is the same: it is the walk's and that of
+-- the id's four bytes (`row-same`). What a field shows is the same, and a part that it shows lies inside, by the cases of the type
+-- (`shown-same`, `shown-inside`). Last the rows of an opened table: the value of a right row is the field where the walk finds it
+-- (`value-shown`), which is the place that the words have, where the fields before it end (`column-placed`): `value-at-place`,
+-- `value-of-own-bytes`.
 use mathlib.Core.Path.{_≡_, refl, sym, ap, subst, _∙_}
 use mathlib.Core.Bool.{Bool, true, false, cond, not}
 use mathlib.Core.List.{List}
@@ -189,7 +197,7 @@ module _ (file index : List ℕ) (most : ℕ) (h : Reading) (n : ℕ) (o : Opens
         let at = placeOfColumn file l start end (l .id) in
         let f = field-at file l start end ahead (e .in-first) all p q (l .id) id-in in
         let room = element-room (l .order) file end (layoutAt l (l .id)) at (placeOfColumn file l start end (suc (l .id))) f
-            (column-one-element file h (o .header) (l .id) id-in) type.Integer (id-kind file h (o .header)) refl (λ z. clash (cc)) in
+        (column-one-element file h (o .header) (l .id) id-in) type.Integer (id-kind file h (o .header)) refl (λ z. clash (cc)) in
         let after = reach-after file l start end ahead (e .in-first) (pred (l .id)) at (passed file l start end ahead (e .in-first) all p q (pred (l .id)) (omega (arith, id-in .1))) in
         number-same file t start end e ahead (l .order) at 4 after room
         ∙ ap (λ (k : ℕ). number (l .order) t k 4) (place-same file t start end e ahead l (l .id))

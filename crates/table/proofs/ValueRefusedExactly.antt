@@ -1,6 +1,13 @@
--- "13: no such row, ring or column" IN WORDS: a row is refused with 13 exactly when it is none of the table's, and a value exactly when
--- its row or else its column is none; and which other refusals a value has, exactly when. Over any table, opened or made by anybody.
--- A value of a right row of an opened table is not refused. Assumes nothing.
+-- "13: no such row, ring or column" IN WORDS: a row is refused with 13 exactly when it is none of the table's, and a value exactly when its
+-- row or else its column is none; and which other refusals a value has, exactly when. Over any table, opened or made by anybody. A value of
+-- a right row of an opened table is not refused.
+--
+-- The plan. No branch of a row's judgement has 13 (`row-not-13`), so a row is refused with 13 only where it is none (`row-13-exactly`). Of
+-- what a field shows only a triplet can be refused, by the cases of the type (`shown-refused`). So `value-refused-exactly` goes through the
+-- definition's tests, no row, no column, and then the row: it is refused itself, or its field is a triplet that cannot be read, which crate
+-- `triplet` says exactly (`by-row`). The other way, each of the four computes to its answer. The fourth is there for tables made by
+-- anybody: in a right row of an opened table each field ends within its row, so its triplet is read (`right-value`, from `field-there` and
+-- `value-shown` of ValueOfRow), and `opened-value-refused-exactly` has three.
 use mathlib.Core.Path.{_≡_, refl, sym, ap, _∙_}
 use mathlib.Core.Logic.{_↔_, _⊎_, inl, inr, ⊎-elim}
 use mathlib.Core.Bool.{Bool, true, false, cond, not, true≢false}

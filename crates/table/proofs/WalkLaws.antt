@@ -1,4 +1,4 @@
--- The walk over a row's columns: one more column, a walk that stopped, and the places that it keeps. Assumes nothing.
+-- The walk over a row's columns: one more column, a walk that stopped, and the places that it keeps.
 use mathlib.Core.Path.{_≡_, refl, sym, ap, _∙_}
 use mathlib.Core.Logic.{by-cases}
 use mathlib.Core.List.{List}
@@ -84,7 +84,7 @@ module _ (s : List ℕ) (l : Layout) (start end : ℕ) where
         let after : reach s l start end (j + 1) ≡ x = reach-next j p x e f in
         (λ t. record {
           reach = (u ∙ sym (stays x h (j + 1) after n (omega arith))) t;
-          at = (v ∙ g ∙ sym (kept-stays (reach s l start end) slots x z (j + 1) (stays x h (j + 1) after) n (omega arith))) t
+          at = (v ∙ g ∙ sym (kept-stays (reach s l start end) slots x z (j + 1) (stays x h (j + 1) after) n (omega arith))) t;
         })
 
     pub through : (n j p : ℕ) (at : List ℕ) → j ≡ n → reach s l start end j ≡ At p → at ≡ placesKept s l start end slots j

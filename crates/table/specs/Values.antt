@@ -17,7 +17,8 @@ use Rattle.opening.specs.declared.Table.{Table}
 use Rattle.table.specs.declared.Row as row
 use Rattle.table.specs.declared.Span.{Span}
 use Rattle.table.specs.declared.Value.{Value}
-use Rattle.table.specs.declared.Value.the-variants.{Short, ShortNull, Integer, IntegerNull, Float, FloatNull, Double, DoubleNull, Triplet, Text, Date, Coordinates, Empty, Refused}
+use Rattle.table.specs.declared.Value.the-variants.{Short, ShortNull, Integer, IntegerNull, Float, FloatNull, Double, DoubleNull}
+use Rattle.table.specs.declared.Value.the-variants.{Triplet, Text, Date, Coordinates, Empty, Refused}
 use Rattle.table.specs.Rows.{columnAt, columnPlace, rowOf, noSuchRow, noSuchColumn}
 
 -- "Null is -32,768 for S, -2,147,483,648 for I, NaN for floats; others have none."

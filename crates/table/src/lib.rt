@@ -408,6 +408,8 @@ fn bound_of(index: &[u8], layout: Layout, k: usize) -> usize
 }
 
 // Row i of a table, judged: where it lies.
+// Example: of the ring table with 2 rows of 12 from byte 97, row 2 lies from 109 to 121 where its id is 2, and is refused with 9 at 2
+// where it is not; row 3 is refused with 13 at 3.
 pub fn read_row(file: &[u8], index: &[u8], table: Table, row: usize) -> Row
     ensures { λ r. ⌜ r ≡ rowOf (now (file .entry)) (now (index .entry)) table row ⌝ }
 {

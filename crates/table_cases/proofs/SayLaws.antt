@@ -1,5 +1,4 @@
 -- What the program asks of numbers that it writes: the pattern of a float that is equal to itself, and the digits of a negative number.
--- Assumes nothing.
 use mathlib.Core.Path.{_≡_, sym, ap, subst, _∙_}
 use mathlib.Core.Bool.{true, false, not, false≢true, true≢false}
 use Prim.Native.Nat.{ℕ, suc, _+_, _<_}

@@ -182,6 +182,7 @@ fn tell_loaded(
 
 // Judges the files of a directory, each with the size that it is said to have, and leaves what is to be written at the front of the text: how
 // many bytes that is.
+// Example: of tile MJ21 the lines `ACCEPT nodes 3 edges 3 faces 2 rings 2`, `ring 1 face 1 steps 3`, `ring 2 face 2 steps 3`, `steps 6`.
 pub fn tell_tile(
     sizes: Sizes,
     edg: &[u8],

@@ -1,4 +1,4 @@
--- A TILE IS ACCEPTED EXACTLY WHEN all of document 01's facts about its nodes, faces, edges and rings hold. Assumes nothing.
+-- A TILE IS ACCEPTED EXACTLY WHEN all of document 01's facts about its nodes, faces, edges and rings hold.
 use mathlib.Core.Path.{_≡_}
 use mathlib.Core.Logic.{⊎-elim}
 use Prim.Native.Nat.{ℕ}
@@ -9,7 +9,8 @@ use Rattle.laws.proofs.LowestLaws.{bool-cases}
 use Rattle.refusal.specs.declared.Refusal.{Refusal}
 use Rattle.tile.specs.Columns.{Tile}
 use Rattle.tile.specs.Check.{verdict, answered, verdictOf}
-use Rattle.tile.specs.Facts.{Facts, Test, sizes, owner-space, nodes, faces, links, successors, predecessors, first-edges, ring-faces, runs, starts, not-named-twice, covered, Holds}
+use Rattle.tile.specs.Facts.{Facts, Test, sizes, owner-space, nodes, faces, links, successors, predecessors, first-edges, ring-faces}
+use Rattle.tile.specs.Facts.{runs, starts, not-named-twice, covered, Holds}
 use Rattle.tile.specs.declared.Verdict.the-variants.{Accepted}
 use Rattle.tile.proofs.InOrder.{judged, none-refused}
 

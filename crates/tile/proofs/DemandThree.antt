@@ -1,4 +1,12 @@
--- DEMAND 3, of every accepted tile. Assumes nothing.
+-- DEMAND 3, of every accepted tile.
+--
+-- The plan. By the facts the successor takes the sides 1..2E into themselves (`into`) and no two to one (`once`). So it permutes them, and
+-- what crate `laws` knows of such a map holds (OrbitLaws): from each side it comes back within 2E moves and meets none twice on the way.
+-- The walk counts that first return (`counts-return`), so a ring's list is closed and has no side twice (`closed`), and a side is met
+-- exactly where it stands on the list (`stands`, `stands-met`). Some ring meets each side, by 31's fact, and no two do, by 30's: that ring
+-- is the owner which the marks hold, and its face is the side's, for the face stays along a walk (`owned`, `face-stays`). So the lists
+-- partition the sides and their lengths add up to 2E (`lists-add-up`); none is longer than that, so with room for 2E each walk answers, and
+-- the answers add up (`adds-up`). Without edges the one ring is empty (`empty`).
 use mathlib.Core.Path.{_≡_, refl, sym, ap, _∙_}
 use mathlib.Core.Logic.{by-cases, ⊎-elim}
 use mathlib.Core.Bool.{Bool, true}

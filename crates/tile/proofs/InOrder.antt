@@ -1,5 +1,5 @@
 -- The tests of the check in document 01's order: all of them hold and nothing is refused, or one fails with its number and place
--- while all earlier ones hold; and no two such refusals fit one tile. Assumes nothing.
+-- while all earlier ones hold; and no two such refusals fit one tile.
 use mathlib.Core.Path.{_≡_, refl, sym, ap, _∙_}
 use mathlib.Core.Logic.{inl, inr, ⊎-elim}
 use mathlib.Core.List.{List, [], _∷_}
@@ -10,8 +10,11 @@ use Rattle.refusal.proofs.JudgedLaws.{Judged, InOrder, judged-in-order, one-fai
 use Rattle.side.proofs.SuccessorExactly.{one-fault}
 use Rattle.tile.specs.Columns.{Tile, sides}
 use Rattle.tile.specs.Check.{tests, verdict}
-use Rattle.tile.specs.Facts.{Test, sizes, owner-space, nodes, faces, links, successors, predecessors, first-edges, ring-faces, runs, starts, not-named-twice, covered, rank, Holds, FailsAt, RefusedWith, Succeeded}
-use Rattle.tile.proofs.TestsInWords.{judged-sizes, judged-space, judged-nodes, judged-faces, judged-links, link-in, judged-successors, judged-predecessors, not-two, judged-first-edges, judged-ring-faces, judged-runs, judged-starts, judged-named, judged-covered}
+use Rattle.tile.specs.Facts.{Test, sizes, owner-space, nodes, faces, links, successors, predecessors, first-edges, ring-faces, runs}
+use Rattle.tile.specs.Facts.{starts, not-named-twice, covered, rank, Holds, FailsAt, RefusedWith, Succeeded}
+use Rattle.tile.proofs.TestsInWords.{judged-sizes, judged-space, judged-nodes, judged-faces, judged-links, link-in, judged-successors}
+use Rattle.tile.proofs.TestsInWords.{judged-predecessors, not-two, judged-first-edges, judged-ring-faces, judged-runs, judged-starts}
+use Rattle.tile.proofs.TestsInWords.{judged-named, judged-covered}
 
 -- no two tests have one place in the order
 order : List Test
@@ -54,20 +57,43 @@ rank-below covered = omega arith
 module _ (t : Tile) (space : ℕ) where
   -- each test is judged while the earlier ones hold; four of them need some of those
   in-order : InOrder Test rank apart (Holds t space) (FailsAt t space) (tests t space) 0
-  in-order =
-      ((sizes, refl, λ e. judged-sizes t),
-      ((owner-space, refl, λ e. judged-space t space),
-      ((nodes, refl, λ e. judged-nodes t),
-      ((faces, refl, λ e. judged-faces t),
-      ((links, refl, λ e. judged-links t),
-      ((successors, refl, λ e. judged-successors t (e links (omega arith))),
-      ((predecessors, refl, λ e. judged-predecessors t (e successors (omega arith))),
-      ((first-edges, refl, λ e. judged-first-edges t),
-      ((ring-faces, refl, λ e. judged-ring-faces t),
-      ((runs, refl, λ e. judged-runs t),
-      ((starts, refl, λ e. judged-starts t),
-      ((not-named-twice, refl, λ e. judged-named t (e successors (omega arith)) (e predecessors (omega arith)) (e starts (omega arith))),
-      ((covered, refl, λ e. judged-covered t (e successors (omega arith)) (e predecessors (omega arith)) (e starts (omega arith))), tt)))))))))))))
+  in-order = (
+    (sizes, refl, λ e. judged-sizes t),
+    (
+      (owner-space, refl, λ e. judged-space t space),
+      (
+        (nodes, refl, λ e. judged-nodes t),
+        (
+          (faces, refl, λ e. judged-faces t),
+          (
+            (links, refl, λ e. judged-links t),
+            (
+              (successors, refl, λ e. judged-successors t (e links (omega arith))),
+              (
+                (predecessors, refl, λ e. judged-predecessors t (e successors (omega arith))),
+                (
+                  (first-edges, refl, λ e. judged-first-edges t),
+                  (
+                    (ring-faces, refl, λ e. judged-ring-faces t),
+                    (
+                      (runs, refl, λ e. judged-runs t),
+                      (
+                        (starts, refl, λ e. judged-starts t),
+                        (
+                          (not-named-twice, refl, λ e. judged-named t (e successors (omega arith)) (e predecessors (omega arith)) (e starts (omega arith))),
+                          ((covered, refl, λ e. judged-covered t (e successors (omega arith)) (e predecessors (omega arith)) (e starts (omega arith))), tt),
+                        ),
+                      ),
+                    ),
+                  ),
+                ),
+              ),
+            ),
+          ),
+        ),
+      ),
+    ),
+  )
 
   -- ALL TESTS HOLD, OR ONE IS THE FIRST THAT FAILS
   pub judged : Judged (verdict t space) ((x : Test) → Holds t space x) (RefusedWith t space)

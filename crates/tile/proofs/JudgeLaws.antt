@@ -1,5 +1,4 @@
 -- What each part of the tests leaves to the next, and the parts joined.
--- Assumes nothing.
 use mathlib.Core.Path.{_≡_, refl, sym, ap, _∙_}
 use mathlib.Core.Logic.{_⊎_, inl, inr, ⊎-elim}
 use mathlib.Core.Bool.{Bool, true, false, cond, not, _&&_, _||_, true≢false}
@@ -17,7 +16,8 @@ use Rattle.laws.proofs.LowestLaws.{bool-cases, lowest-zero, lowest-none}
 use Rattle.laws.proofs.MarkLaws.{over-front}
 use Rattle.refusal.specs.declared.Refusal.{Refusal}
 use Rattle.refusal.specs.Order.{refusal, fine, refusedIf, located, first, firstOf, lowestOf}
-use Rattle.refusal.proofs.OrderLaws.{first-passes, first-refuses, both, passed-all, located-passes, lowest-fine, stops, goes-on, part-stops, part-goes-on, Numbered, AllNumbered, first-numbered, located-numbered, lowest-numbered}
+use Rattle.refusal.proofs.OrderLaws.{first-passes, first-refuses, both, passed-all, located-passes, lowest-fine, stops, goes-on, part-stops}
+use Rattle.refusal.proofs.OrderLaws.{part-goes-on, Numbered, AllNumbered, first-numbered, located-numbered, lowest-numbered}
 use Rattle.side.specs.Edges.{Edges, edgeCount, sideCount}
 use Rattle.side.specs.Successor.{successor, after}
 use Rattle.side.specs.declared.Successor.{Successor}
@@ -25,7 +25,8 @@ use Rattle.side.specs.declared.Successor.the-variants.{Side, Wrong}
 use Rattle.side.proofs.SideLaws.{Sound, successor-sound}
 use Rattle.tile.specs.Columns.{Tile, E, F, R, N, sides, mostRows, Regular, sideWith, startSide, emptyAllowed, emptyStart}
 use Rattle.tile.specs.Check.{slicesUnequal, tooManyRows, sizesWrong, refusedSide, edgeSideRefusal, tests, verdict, verdictOf, marksLeft, marksAfter}
-use Rattle.tile.specs.Serving.Stages.{edgeTests, ringTests, ownerTests, startMissing, startOf, lacksStart, ownersPainted, ringsOf, ownersOf, afterEdges, laterTests, marksJudged}
+use Rattle.tile.specs.Serving.Stages.{edgeTests, ringTests, ownerTests, startMissing, startOf, lacksStart, ownersPainted, ringsOf}
+use Rattle.tile.specs.Serving.Stages.{ownersOf, afterEdges, laterTests, marksJudged}
 use Rattle.tile.specs.declared.Verdict.{Verdict}
 use Rattle.tile.specs.declared.Verdict.the-variants.{Accepted, Refused}
 use Rattle.tile.proofs.TestsInWords.{sizes-exactly}

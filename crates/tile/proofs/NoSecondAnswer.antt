@@ -1,5 +1,5 @@
 -- NO SECOND ANSWER FITS. The contracts of `check` and `walk` are equations for the answer and for the lent buffer at exit, with
--- nothing required; so two answers with their buffers that both fit are the same. Assumes nothing.
+-- nothing required; so two answers with their buffers that both fit are the same.
 use mathlib.Core.Path.{_≡_, sym, _∙_}
 use mathlib.Core.List.{List}
 use Prim.Native.Nat.{ℕ}

@@ -1,5 +1,4 @@
 -- A TILE IS REFUSED WITH n AT p EXACTLY WHEN a test fails so, at the lowest row or side at which it does, and all earlier ones hold.
--- Assumes nothing.
 use mathlib.Core.Path.{_≡_, _∙_}
 use mathlib.Core.Logic.{⊎-elim}
 use Prim.Native.Nat.{ℕ}

@@ -1,6 +1,12 @@
--- "For each face its ring rows being exactly one unbroken run that starts at its ring_ptr" (28): the test of the definition, which
--- counts the face's rows, and the test of the code, which looks where runs begin, each hold exactly where the words do; so the
--- two are one test. The rows before, in and behind a run are counted as three sums.
+-- "For each face its ring rows being exactly one unbroken run that starts at its ring_ptr" (28): the test of the definition, which counts
+-- the face's rows, and the test of the code, which looks where runs begin, each hold exactly where the words do; so the two are one test.
+--
+-- The plan. By counting: the rows that hold the face are a sum of three, before, in and behind the k rows from p on (`three-parts`). Where
+-- all of the k hold it their sum is k (`all-count`), so there are k in all exactly where no other row holds it (`no-other`, `no-more`):
+-- `broken-exactly`. By where runs begin: a row that holds the face follows one that does, or is row p (`Steady`). So from a row that holds
+-- it one goes down through rows that do, as long as p is not met (`down`). Then no row before p holds it, for row 0 holds nothing, and none
+-- behind the first row after p that does not (`run-only`): `at-pointer-exactly`. Two tests that pass where the same words hold are equal
+-- (`one-test`): `not-at-pointer-broken`.
 use mathlib.Core.Path.{_≡_, refl, sym, ap, _∙_}
 use mathlib.Core.Logic.{_↔_, by-cases, _⊎_, inl, inr, ⊎-elim}
 use mathlib.Core.Bool.{Bool, true, false, not, _&&_, _||_, true≢false}

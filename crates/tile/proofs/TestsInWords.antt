@@ -1,5 +1,5 @@
 -- Each test of the check in document 01's words: it refuses nothing exactly where the words hold at every row or side, and else
--- its number at the lowest row or side where they fail. Assumes nothing.
+-- its number at the lowest row or side where they fail.
 use mathlib.Core.Path.{_≡_, refl, sym, _∙_}
 use mathlib.Core.Logic.{_↔_, _⊎_, inl, inr, ⊎-elim}
 use mathlib.Core.Bool.{Bool, true, false, true≢false}
@@ -22,7 +22,8 @@ use Rattle.side.specs.declared.Successor.{Successor}
 use Rattle.side.specs.declared.Successor.the-variants.{Side, Wrong}
 use Rattle.side.specs.Edges.{outside, edgeOf, face}
 use Rattle.side.specs.Successor.{successor, after, LinkIn, Fault}
-use Rattle.side.proofs.SuccessorExactly.{not-outside, face-of-right, face-of-left, successor-follows, follows-successor, wrong-fault, wrong-number, successor-side, side-after}
+use Rattle.side.proofs.SuccessorExactly.{not-outside, face-of-right, face-of-left, successor-follows, follows-successor, wrong-fault}
+use Rattle.side.proofs.SuccessorExactly.{wrong-number, successor-side, side-after}
 use Rattle.tile.specs.Columns.{Tile, E, F, R, N, sides, mostRows, startSide, emptyStart}
 use Rattle.tile.specs.Check.{slicesUnequal, tooManyRows, sizesWrong, rowOutside, nodeOutside, faceOutside, linkOutside}
 use Rattle.tile.specs.Check.{refusedSide, sideRefusal, firstEdgeWrong, ringFaceOutside, runWrong, startWrong}

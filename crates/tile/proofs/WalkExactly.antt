@@ -1,9 +1,13 @@
--- THE WALK IN WORDS, of any tile and any ring row: it answers with k steps, and is refused with n at p, exactly when document 01's
--- words say so; the steps are the first return of the start side, and the sides written are those of the path to it.
+-- THE WALK IN WORDS, of any tile and any ring row: it answers with k steps, and is refused with n at p, exactly when document 01's words
+-- say so; the steps are the first return of the start side, and the sides written are those of the path to it.
 --
--- The plan. What the counting of moves comes to is said in words by induction on the moves left: the sides passed are a path. The
--- other way, along any path the counting goes on, so that what is at its end decides. With the tests before it, each answer's words
--- hold where it is given, and where the words of an answer hold it is given.
+-- The plan. What the counting of moves comes to (`MovesSay`: back, open, or stuck) is said in words by induction on the moves left: the
+-- sides passed are a path (`moves-say`). The other way, along any path the counting goes on (`goes-along`), so that what is at its end
+-- decides: `counts-the-return`, `stays-away`, `gets-stuck`. With the tests 15, 13 and 29 before it, each answer's words hold where it is
+-- given (`walk-in-words`), and where the words of an answer hold it is given (`words-refused`, `words-answered`). So the two theorems
+-- `..-exactly`. There is one first return, since the counting has one answer; it is the lowest number of moves after which the successor as
+-- a function is back (`first-return-lowest`): where that function has come to 0 it stays there, so on the way to a return no move failed.
+-- Every path passes the sides of that function (`along`), which are those that are written (`walk-writes`).
 use mathlib.Core.Path.{_≡_, refl, sym, ap, _∙_}
 use mathlib.Core.Logic.{_↔_, by-cases, inl, inr, ⊎-elim}
 use mathlib.Core.Bool.{true, false, true≢false}

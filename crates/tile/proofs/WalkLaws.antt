@@ -1,5 +1,4 @@
 -- The walk: one turn of the counting loop, what the count decides, and the tests before it.
--- Assumes nothing.
 use mathlib.Core.Path.{_≡_, refl, sym, ap, _∙_}
 use mathlib.Core.Bool.{true, false}
 use mathlib.Core.List.{List}

@@ -113,7 +113,8 @@ pub(crate) fn judge_side(
 ) -> Refusal
     requires { ⌜ Regular (edges (now «start_node») (now «end_node») (now «right_face») (now «left_face») (now «right_edge») (now «left_edge»)) ⌝ }
     requires { ⌜ s ≤ 2 * length (now «start_node») ⌝ }
-    ensures { λ r. ⌜ r ≡ edgeSideRefusal (edges (now («start_node» .entry)) (now («end_node» .entry)) (now («right_face» .entry)) (now («left_face» .entry)) (now («right_edge» .entry)) (now («left_edge» .entry))) s ⌝ }
+    ensures { λ r. ⌜ r ≡ edgeSideRefusal (edges (now («start_node» .entry)) (now («end_node» .entry)) (now («right_face» .entry)) (now
+            («left_face» .entry)) (now («right_edge» .entry)) (now («left_edge» .entry))) s ⌝ }
 {
     let u = successors::side_after(
         start_node,
@@ -156,8 +157,10 @@ pub(crate) fn judge_edges(
     requires { ⌜ Regular (edges (now «start_node») (now «end_node») (now «right_face») (now «left_face») (now «right_edge») (now «left_edge»)) ⌝ }
     requires { ⌜ 2 * length (now «start_node») ≤ length (now marks) ⌝ }
     requires { ⌜ now marks ≡ front zeros (2 * length (now «start_node»)) (now marks) ⌝ }
-    ensures { λ r. ⌜ r ≡ firstOf (edgeTests (edges (now («start_node» .entry)) (now («end_node» .entry)) (now («right_face» .entry)) (now («left_face» .entry)) (now («right_edge» .entry)) (now («left_edge» .entry))) faces nodes) ⌝ }
-    ensures { λ r. ⌜ now (marks .exit) ≡ tallied (edges (now («start_node» .entry)) (now («end_node» .entry)) (now («right_face» .entry)) (now («left_face» .entry)) (now («right_edge» .entry)) (now («left_edge» .entry))) r (now (marks .entry)) ⌝ }
+    ensures { λ r. ⌜ r ≡ firstOf (edgeTests (edges (now («start_node» .entry)) (now («end_node» .entry)) (now («right_face» .entry)) (now
+            («left_face» .entry)) (now («right_edge» .entry)) (now («left_edge» .entry))) faces nodes) ⌝ }
+    ensures { λ r. ⌜ now (marks .exit) ≡ tallied (edges (now («start_node» .entry)) (now («end_node» .entry)) (now («right_face» .entry)) (now
+            («left_face» .entry)) (now («right_edge» .entry)) (now («left_edge» .entry))) r (now (marks .entry)) ⌝ }
 {
     let n = start_node.len();
     let a = refusal::refuse_at(20, bad_row(nodes, n, start_node, end_node));

@@ -49,10 +49,15 @@ fn judge(
     first_edge: &[u32],
     marks: &mut [u32],
 ) -> Refusal
-    requires { ⌜ sizesWrong (tile (edges (now «start_node») (now «end_node») (now «right_face») (now «left_face») (now «right_edge») (now «left_edge»)) (now «ring_ptr») (now «fac_id») (now «start_edge») (now «first_edge»)) ≡ false ⌝ }
+    requires { ⌜ sizesWrong (tile (edges (now «start_node») (now «end_node») (now «right_face») (now «left_face») (now «right_edge»)
+            (now «left_edge»)) (now «ring_ptr») (now «fac_id») (now «start_edge») (now «first_edge»)) ≡ false ⌝ }
     requires { ⌜ 2 * length (now «start_node») ≤ length (now marks) ⌝ }
-    ensures { λ r. ⌜ r ≡ firstOf (laterTests (tile (edges (now («start_node» .entry)) (now («end_node» .entry)) (now («right_face» .entry)) (now («left_face» .entry)) (now («right_edge» .entry)) (now («left_edge» .entry))) (now («ring_ptr» .entry)) (now («fac_id» .entry)) (now («start_edge» .entry)) (now («first_edge» .entry)))) ⌝ }
-    ensures { λ r. ⌜ now (marks .exit) ≡ marksJudged (tile (edges (now («start_node» .entry)) (now («end_node» .entry)) (now («right_face» .entry)) (now («left_face» .entry)) (now («right_edge» .entry)) (now («left_edge» .entry))) (now («ring_ptr» .entry)) (now («fac_id» .entry)) (now («start_edge» .entry)) (now («first_edge» .entry))) r (now (marks .entry)) ⌝ }
+    ensures { λ r. ⌜ r ≡ firstOf (laterTests (tile (edges (now («start_node» .entry)) (now («end_node» .entry)) (now («right_face» .entry)) (now
+            («left_face» .entry)) (now («right_edge» .entry)) (now («left_edge» .entry))) (now («ring_ptr» .entry)) (now («fac_id» .entry)) (now
+            («start_edge» .entry)) (now («first_edge» .entry)))) ⌝ }
+    ensures { λ r. ⌜ now (marks .exit) ≡ marksJudged (tile (edges (now («start_node» .entry)) (now («end_node» .entry)) (now («right_face» .entry))
+            (now («left_face» .entry)) (now («right_edge» .entry)) (now («left_edge» .entry))) (now («ring_ptr» .entry)) (now («fac_id» .entry))
+            (now («start_edge» .entry)) (now («first_edge» .entry))) r (now (marks .entry)) ⌝ }
 {
     let n = 2 * start_node.len();
     owners::clear(marks, n);
@@ -119,6 +124,8 @@ fn judge(
 }
 
 // The check. On acceptance the marks hold the ring row of each side; refusals 20 to 31 set the first 2E to zero.
+// Example: tile MJ21, with rings for faces 1 and 2 from edge 1, is accepted with the marks 2, 1, 2, 1, 2, 1: its right sides have face 2.
+// With the left edge of edge 1 made 2 it is refused with 23 at side 2, and the first six marks are 0.
 pub fn check(
     start_node: &[u32],
     end_node: &[u32],
@@ -132,8 +139,12 @@ pub fn check(
     first_edge: &[u32],
     marks: &mut [u32],
 ) -> Verdict
-    ensures { λ r. ⌜ r ≡ verdictOf (tile (edges (now («start_node» .entry)) (now («end_node» .entry)) (now («right_face» .entry)) (now («left_face» .entry)) (now («right_edge» .entry)) (now («left_edge» .entry))) (now («ring_ptr» .entry)) (now («fac_id» .entry)) (now («start_edge» .entry)) (now («first_edge» .entry))) (length (now (marks .entry))) ⌝ }
-    ensures { λ r. ⌜ now (marks .exit) ≡ marksAfter (tile (edges (now («start_node» .entry)) (now («end_node» .entry)) (now («right_face» .entry)) (now («left_face» .entry)) (now («right_edge» .entry)) (now («left_edge» .entry))) (now («ring_ptr» .entry)) (now («fac_id» .entry)) (now («start_edge» .entry)) (now («first_edge» .entry))) (now (marks .entry)) ⌝ }
+    ensures { λ r. ⌜ r ≡ verdictOf (tile (edges (now («start_node» .entry)) (now («end_node» .entry)) (now («right_face» .entry)) (now
+            («left_face» .entry)) (now («right_edge» .entry)) (now («left_edge» .entry))) (now («ring_ptr» .entry)) (now («fac_id» .entry)) (now
+            («start_edge» .entry)) (now («first_edge» .entry))) (length (now (marks .entry))) ⌝ }
+    ensures { λ r. ⌜ now (marks .exit) ≡ marksAfter (tile (edges (now («start_node» .entry)) (now («end_node» .entry)) (now («right_face» .entry))
+            (now («left_face» .entry)) (now («right_edge» .entry)) (now («left_edge» .entry))) (now («ring_ptr» .entry)) (now («fac_id» .entry))
+            (now («start_edge» .entry)) (now («first_edge» .entry))) (now (marks .entry)) ⌝ }
 {
     if sizes::sizes_wrong(
         start_node,
@@ -173,6 +184,8 @@ pub fn check(
 }
 
 // The walk from a ring row: the sides of its cycle, start side first. A refusal writes nothing.
+// Example: in tile MJ21 ring 1 (face 1, from edge 1) has 3 steps and the list 2, 6, 4, and ring 2 the list 1, 3, 5. One dangling edge with
+// both faces 1 and both links 1 has one ring, of 2 steps: 1, 2.
 pub fn walk(
     start_node: &[u32],
     end_node: &[u32],
@@ -187,8 +200,12 @@ pub fn walk(
     row: usize,
     out: &mut [u32],
 ) -> Walked
-    ensures { λ r. ⌜ r ≡ walkOf (tile (edges (now («start_node» .entry)) (now («end_node» .entry)) (now («right_face» .entry)) (now («left_face» .entry)) (now («right_edge» .entry)) (now («left_edge» .entry))) (now («ring_ptr» .entry)) (now («fac_id» .entry)) (now («start_edge» .entry)) (now («first_edge» .entry))) row (length (now (out .entry))) ⌝ }
-    ensures { λ r. ⌜ now (out .exit) ≡ sidesWritten (tile (edges (now («start_node» .entry)) (now («end_node» .entry)) (now («right_face» .entry)) (now («left_face» .entry)) (now («right_edge» .entry)) (now («left_edge» .entry))) (now («ring_ptr» .entry)) (now («fac_id» .entry)) (now («start_edge» .entry)) (now («first_edge» .entry))) row r (now (out .entry)) ⌝ }
+    ensures { λ r. ⌜ r ≡ walkOf (tile (edges (now («start_node» .entry)) (now («end_node» .entry)) (now («right_face» .entry)) (now
+            («left_face» .entry)) (now («right_edge» .entry)) (now («left_edge» .entry))) (now («ring_ptr» .entry)) (now («fac_id» .entry)) (now
+            («start_edge» .entry)) (now («first_edge» .entry))) row (length (now (out .entry))) ⌝ }
+    ensures { λ r. ⌜ now (out .exit) ≡ sidesWritten (tile (edges (now («start_node» .entry)) (now («end_node» .entry)) (now («right_face» .entry))
+            (now («left_face» .entry)) (now («right_edge» .entry)) (now («left_edge» .entry))) (now («ring_ptr» .entry)) (now («fac_id» .entry))
+            (now («start_edge» .entry)) (now («first_edge» .entry))) row r (now (out .entry)) ⌝ }
 {
     if sizes::sizes_wrong(
         start_node,

@@ -66,8 +66,11 @@ pub(crate) fn tally(
     requires { ⌜ Regular (edges (now «start_node») (now «end_node») (now «right_face») (now «left_face») (now «right_edge») (now «left_edge»)) ⌝ }
     requires { ⌜ 2 * length (now «start_node») ≤ length (now marks) ⌝ }
     requires { ⌜ now marks ≡ front zeros (2 * length (now «start_node»)) (now marks) ⌝ }
-    ensures { λ r. ⌜ r ≡ lowestOf (edgeSideRefusal (edges (now («start_node» .entry)) (now («end_node» .entry)) (now («right_face» .entry)) (now («left_face» .entry)) (now («right_edge» .entry)) (now («left_edge» .entry)))) (sideCount (edges (now («start_node» .entry)) (now («end_node» .entry)) (now («right_face» .entry)) (now («left_face» .entry)) (now («right_edge» .entry)) (now («left_edge» .entry)))) ⌝ }
-    ensures { λ r. ⌜ now (marks .exit) ≡ tallied (edges (now («start_node» .entry)) (now («end_node» .entry)) (now («right_face» .entry)) (now («left_face» .entry)) (now («right_edge» .entry)) (now («left_edge» .entry))) r (now (marks .entry)) ⌝ }
+    ensures { λ r. ⌜ r ≡ lowestOf (edgeSideRefusal (edges (now («start_node» .entry)) (now («end_node» .entry)) (now («right_face» .entry)) (now
+            («left_face» .entry)) (now («right_edge» .entry)) (now («left_edge» .entry)))) (sideCount (edges (now («start_node» .entry)) (now
+            («end_node» .entry)) (now («right_face» .entry)) (now («left_face» .entry)) (now («right_edge» .entry)) (now («left_edge» .entry)))) ⌝ }
+    ensures { λ r. ⌜ now (marks .exit) ≡ tallied (edges (now («start_node» .entry)) (now («end_node» .entry)) (now («right_face» .entry)) (now
+            («left_face» .entry)) (now («right_edge» .entry)) (now («left_edge» .entry))) r (now (marks .entry)) ⌝ }
 {
     let n = 2 * start_node.len();
     let mut i: usize = 0;
@@ -112,8 +115,10 @@ pub(crate) fn doubled(
 ) -> usize
     requires { ⌜ length (now «start_node») ≤ mostRows ⌝ }
     requires { ⌜ 2 * length (now «start_node») ≤ length (now marks) ⌝ }
-    requires { ⌜ now marks ≡ front (count (after (edges (now «start_node») (now «end_node») (now «right_face») (now «left_face») (now «right_edge») (now «left_edge»))) (2 * length (now «start_node»))) (2 * length (now «start_node»)) (now marks) ⌝ }
-    ensures { λ r. ⌜ r ≡ firstDoubled (after (edges (now («start_node» .entry)) (now («end_node» .entry)) (now («right_face» .entry)) (now («left_face» .entry)) (now («right_edge» .entry)) (now («left_edge» .entry)))) (2 * length (now («start_node» .entry))) ⌝ }
+    requires { ⌜ now marks ≡ front (count (after (edges (now «start_node») (now «end_node») (now «right_face») (now «left_face») (now «right_edge»)
+            (now «left_edge»))) (2 * length (now «start_node»))) (2 * length (now «start_node»)) (now marks) ⌝ }
+    ensures { λ r. ⌜ r ≡ firstDoubled (after (edges (now («start_node» .entry)) (now («end_node» .entry)) (now («right_face» .entry)) (now
+            («left_face» .entry)) (now («right_edge» .entry)) (now («left_edge» .entry)))) (2 * length (now («start_node» .entry))) ⌝ }
 {
     find(marks, 2 * start_node.len(), 2)
 }
@@ -131,11 +136,15 @@ fn paint(
     marks: &mut [u32],
 )
     requires { ⌜ Regular (edges (now «start_node») (now «end_node») (now «right_face») (now «left_face») (now «right_edge») (now «left_edge»)) ⌝ }
-    requires { ⌜ lowestOf (edgeSideRefusal (edges (now «start_node») (now «end_node») (now «right_face») (now «left_face») (now «right_edge») (now «left_edge»))) (sideCount (edges (now «start_node») (now «end_node») (now «right_face») (now «left_face») (now «right_edge») (now «left_edge»))) ≡ fine ⌝ }
+    requires { ⌜ lowestOf (edgeSideRefusal (edges (now «start_node») (now «end_node») (now «right_face») (now «left_face») (now «right_edge»)
+            (now «left_edge»))) (sideCount (edges (now «start_node») (now «end_node») (now «right_face») (now «left_face») (now «right_edge»)
+            (now «left_edge»))) ≡ fine ⌝ }
     requires { ⌜ firstDoubled (after (edges (now «start_node») (now «end_node») (now «right_face») (now «left_face») (now «right_edge») (now «left_edge»))) (2 * length (now «start_node»)) ≡ 0 ⌝ }
     requires { ⌜ 2 * length (now «start_node») ≤ length (now marks) ⌝ }
     requires { ⌜ start ≤ 2 * length (now «start_node») ⌝ }
-    ensures { λ _. ⌜ now (marks .exit) ≡ front (painted (after (edges (now («start_node» .entry)) (now («end_node» .entry)) (now («right_face» .entry)) (now («left_face» .entry)) (now («right_edge» .entry)) (now («left_edge» .entry)))) (now (marks .entry)) start row (2 * length (now («start_node» .entry)))) (2 * length (now («start_node» .entry))) (now (marks .entry)) ⌝ }
+    ensures { λ _. ⌜ now (marks .exit) ≡ front (painted (after (edges (now («start_node» .entry)) (now («end_node» .entry)) (now
+            («right_face» .entry)) (now («left_face» .entry)) (now («right_edge» .entry)) (now («left_edge» .entry)))) (now
+            (marks .entry)) start row (2 * length (now («start_node» .entry)))) (2 * length (now («start_node» .entry))) (now (marks .entry)) ⌝ }
 {
     if start == 0 {
         return;
@@ -175,12 +184,20 @@ fn own(
     marks: &mut [u32],
 ) -> usize
     requires { ⌜ Regular (edges (now «start_node») (now «end_node») (now «right_face») (now «left_face») (now «right_edge») (now «left_edge»)) × (length (now «fac_id») ≤ mostRows) ⌝ }
-    requires { ⌜ lowestOf (edgeSideRefusal (edges (now «start_node») (now «end_node») (now «right_face») (now «left_face») (now «right_edge») (now «left_edge»))) (sideCount (edges (now «start_node») (now «end_node») (now «right_face») (now «left_face») (now «right_edge») (now «left_edge»))) ≡ fine ⌝ }
+    requires { ⌜ lowestOf (edgeSideRefusal (edges (now «start_node») (now «end_node») (now «right_face») (now «left_face») (now «right_edge»)
+            (now «left_edge»))) (sideCount (edges (now «start_node») (now «end_node») (now «right_face») (now «left_face») (now «right_edge»)
+            (now «left_edge»))) ≡ fine ⌝ }
     requires { ⌜ firstDoubled (after (edges (now «start_node») (now «end_node») (now «right_face») (now «left_face») (now «right_edge») (now «left_edge»))) (2 * length (now «start_node»)) ≡ 0 ⌝ }
     requires { ⌜ 2 * length (now «start_node») ≤ length (now marks) ⌝ }
-    requires { ⌜ lowest (lacksStart (edges (now «start_node») (now «end_node») (now «right_face») (now «left_face») (now «right_edge») (now «left_edge»)) (now «fac_id») (now «start_edge»)) (length (now «fac_id»)) ≡ 0 ⌝ }
-    ensures { λ r. ⌜ r ≡ firstTaken (after (edges (now («start_node» .entry)) (now («end_node» .entry)) (now («right_face» .entry)) (now («left_face» .entry)) (now («right_edge» .entry)) (now («left_edge» .entry)))) (2 * length (now («start_node» .entry))) (startOf (edges (now («start_node» .entry)) (now («end_node» .entry)) (now («right_face» .entry)) (now («left_face» .entry)) (now («right_edge» .entry)) (now («left_edge» .entry))) (now («fac_id» .entry)) (now («start_edge» .entry))) (length (now («fac_id» .entry))) ⌝ }
-    ensures { λ r. ⌜ now (marks .exit) ≡ ownersPainted (edges (now («start_node» .entry)) (now («end_node» .entry)) (now («right_face» .entry)) (now («left_face» .entry)) (now («right_edge» .entry)) (now («left_edge» .entry))) (now («fac_id» .entry)) (now («start_edge» .entry)) (now (marks .entry)) ⌝ }
+    requires { ⌜ lowest (lacksStart (edges (now «start_node») (now «end_node») (now «right_face») (now «left_face») (now «right_edge»)
+            (now «left_edge»)) (now «fac_id») (now «start_edge»)) (length (now «fac_id»)) ≡ 0 ⌝ }
+    ensures { λ r. ⌜ r ≡ firstTaken (after (edges (now («start_node» .entry)) (now («end_node» .entry)) (now («right_face» .entry)) (now
+            («left_face» .entry)) (now («right_edge» .entry)) (now («left_edge» .entry)))) (2 * length (now («start_node» .entry))) (startOf (edges
+            (now («start_node» .entry)) (now («end_node» .entry)) (now («right_face» .entry)) (now («left_face» .entry)) (now («right_edge» .entry))
+            (now («left_edge» .entry))) (now («fac_id» .entry)) (now («start_edge» .entry))) (length (now («fac_id» .entry))) ⌝ }
+    ensures { λ r. ⌜ now (marks .exit) ≡ ownersPainted (edges (now («start_node» .entry)) (now («end_node» .entry)) (now («right_face» .entry)) (now
+            («left_face» .entry)) (now («right_edge» .entry)) (now («left_edge» .entry))) (now («fac_id» .entry)) (now («start_edge» .entry)) (now
+            (marks .entry)) ⌝ }
 {
     let edges = start_node.len();
     clear(marks, 2 * edges);
@@ -220,12 +237,18 @@ pub(crate) fn judge_owners(
     marks: &mut [u32],
 ) -> Refusal
     requires { ⌜ Regular (edges (now «start_node») (now «end_node») (now «right_face») (now «left_face») (now «right_edge») (now «left_edge»)) × (length (now «fac_id») ≤ mostRows) ⌝ }
-    requires { ⌜ lowestOf (edgeSideRefusal (edges (now «start_node») (now «end_node») (now «right_face») (now «left_face») (now «right_edge») (now «left_edge»))) (sideCount (edges (now «start_node») (now «end_node») (now «right_face») (now «left_face») (now «right_edge») (now «left_edge»))) ≡ fine ⌝ }
+    requires { ⌜ lowestOf (edgeSideRefusal (edges (now «start_node») (now «end_node») (now «right_face») (now «left_face») (now «right_edge»)
+            (now «left_edge»))) (sideCount (edges (now «start_node») (now «end_node») (now «right_face») (now «left_face») (now «right_edge»)
+            (now «left_edge»))) ≡ fine ⌝ }
     requires { ⌜ firstDoubled (after (edges (now «start_node») (now «end_node») (now «right_face») (now «left_face») (now «right_edge») (now «left_edge»))) (2 * length (now «start_node»)) ≡ 0 ⌝ }
     requires { ⌜ 2 * length (now «start_node») ≤ length (now marks) ⌝ }
-    requires { ⌜ lowest (lacksStart (edges (now «start_node») (now «end_node») (now «right_face») (now «left_face») (now «right_edge») (now «left_edge»)) (now «fac_id») (now «start_edge»)) (length (now «fac_id»)) ≡ 0 ⌝ }
-    ensures { λ r. ⌜ r ≡ firstOf (ownerTests (edges (now («start_node» .entry)) (now («end_node» .entry)) (now («right_face» .entry)) (now («left_face» .entry)) (now («right_edge» .entry)) (now («left_edge» .entry))) (now («fac_id» .entry)) (now («start_edge» .entry))) ⌝ }
-    ensures { λ r. ⌜ now (marks .exit) ≡ ownersPainted (edges (now («start_node» .entry)) (now («end_node» .entry)) (now («right_face» .entry)) (now («left_face» .entry)) (now («right_edge» .entry)) (now («left_edge» .entry))) (now («fac_id» .entry)) (now («start_edge» .entry)) (now (marks .entry)) ⌝ }
+    requires { ⌜ lowest (lacksStart (edges (now «start_node») (now «end_node») (now «right_face») (now «left_face») (now «right_edge»)
+            (now «left_edge»)) (now «fac_id») (now «start_edge»)) (length (now «fac_id»)) ≡ 0 ⌝ }
+    ensures { λ r. ⌜ r ≡ firstOf (ownerTests (edges (now («start_node» .entry)) (now («end_node» .entry)) (now («right_face» .entry)) (now
+            («left_face» .entry)) (now («right_edge» .entry)) (now («left_edge» .entry))) (now («fac_id» .entry)) (now («start_edge» .entry))) ⌝ }
+    ensures { λ r. ⌜ now (marks .exit) ≡ ownersPainted (edges (now («start_node» .entry)) (now («end_node» .entry)) (now («right_face» .entry)) (now
+            («left_face» .entry)) (now («right_edge» .entry)) (now («left_edge» .entry))) (now («fac_id» .entry)) (now («start_edge» .entry)) (now
+            (marks .entry)) ⌝ }
 {
     let a = refusal::refuse_at(
         30,

@@ -36,7 +36,8 @@ fn get_stuck(
     left_edge: &[u32],
     s: usize,
 ) -> Moves
-    ensures { λ r. ⌜ r ≡ onMove s (successor (edges (now («start_node» .entry)) (now («end_node» .entry)) (now («right_face» .entry)) (now («left_face» .entry)) (now («right_edge» .entry)) (now («left_edge» .entry))) s) (λ u. Open) ⌝ }
+    ensures { λ r. ⌜ r ≡ onMove s (successor (edges (now («start_node» .entry)) (now («end_node» .entry)) (now («right_face» .entry)) (now
+            («left_face» .entry)) (now («right_edge» .entry)) (now («left_edge» .entry))) s) (λ u. Open) ⌝ }
 {
     match side::next_side(
         start_node,
@@ -64,7 +65,8 @@ fn count_moves(
 ) -> Moves
     requires { ⌜ Regular (edges (now «start_node») (now «end_node») (now «right_face») (now «left_face») (now «right_edge») (now «left_edge»)) ⌝ }
     requires { ⌜ start ≤ 2 * length (now «start_node») ⌝ }
-    ensures { λ r. ⌜ r ≡ moves (edges (now («start_node» .entry)) (now («end_node» .entry)) (now («right_face» .entry)) (now («left_face» .entry)) (now («right_edge» .entry)) (now («left_edge» .entry))) start ⌝ }
+    ensures { λ r. ⌜ r ≡ moves (edges (now («start_node» .entry)) (now («end_node» .entry)) (now («right_face» .entry)) (now («left_face» .entry))
+            (now («right_edge» .entry)) (now («left_edge» .entry))) start ⌝ }
 {
     let n = 2 * start_node.len();
     let mut s = start;
@@ -114,7 +116,8 @@ fn write_sides(
     requires { ⌜ Regular (edges (now «start_node») (now «end_node») (now «right_face») (now «left_face») (now «right_edge») (now «left_edge»)) ⌝ }
     requires { ⌜ start ≤ 2 * length (now «start_node») ⌝ }
     requires { ⌜ k ≤ length (now out) ⌝ }
-    ensures { λ _. ⌜ now (out .exit) ≡ front (λ (i : ℕ). iterate (after (edges (now («start_node» .entry)) (now («end_node» .entry)) (now («right_face» .entry)) (now («left_face» .entry)) (now («right_edge» .entry)) (now («left_edge» .entry)))) i start) k (now (out .entry)) ⌝ }
+    ensures { λ _. ⌜ now (out .exit) ≡ front (λ (i : ℕ). iterate (after (edges (now («start_node» .entry)) (now («end_node» .entry)) (now
+            («right_face» .entry)) (now («left_face» .entry)) (now («right_edge» .entry)) (now («left_edge» .entry)))) i start) k (now (out .entry)) ⌝ }
 {
     let mut s = start;
     let mut j: usize = 0;
@@ -147,8 +150,10 @@ pub(crate) fn walk_from(
 ) -> Walked
     requires { ⌜ Regular (edges (now «start_node») (now «end_node») (now «right_face») (now «left_face») (now «right_edge») (now «left_edge»)) ⌝ }
     requires { ⌜ start ≤ 2 * length (now «start_node») ⌝ }
-    ensures { λ w. ⌜ w ≡ walked r (length (now (out .entry))) (moves (edges (now («start_node» .entry)) (now («end_node» .entry)) (now («right_face» .entry)) (now («left_face» .entry)) (now («right_edge» .entry)) (now («left_edge» .entry))) start) ⌝ }
-    ensures { λ w. ⌜ now (out .exit) ≡ pathWritten (edges (now («start_node» .entry)) (now («end_node» .entry)) (now («right_face» .entry)) (now («left_face» .entry)) (now («right_edge» .entry)) (now («left_edge» .entry))) start w (now (out .entry)) ⌝ }
+    ensures { λ w. ⌜ w ≡ walked r (length (now (out .entry))) (moves (edges (now («start_node» .entry)) (now («end_node» .entry)) (now
+            («right_face» .entry)) (now («left_face» .entry)) (now («right_edge» .entry)) (now («left_edge» .entry))) start) ⌝ }
+    ensures { λ w. ⌜ now (out .exit) ≡ pathWritten (edges (now («start_node» .entry)) (now («end_node» .entry)) (now («right_face» .entry)) (now
+            («left_face» .entry)) (now («right_edge» .entry)) (now («left_edge» .entry))) start w (now (out .entry)) ⌝ }
 {
     match count_moves(
         start_node,

@@ -20,7 +20,8 @@ fn slices_unequal(
     rings: usize,
     start_edge: usize,
 ) -> bool
-    ensures { λ r. ⌜ r ≡ (not (eqb «end_node» edges) || (not (eqb «right_face» edges) || (not (eqb «left_face» edges) || (not (eqb «right_edge» edges) || (not (eqb «left_edge» edges) || not (eqb «start_edge» rings)))))) ⌝ }
+    ensures { λ r. ⌜ r ≡ (not (eqb «end_node» edges) || (not (eqb «right_face» edges) || (not (eqb «left_face» edges) || (not
+            (eqb «right_edge» edges) || (not (eqb «left_edge» edges) || not (eqb «start_edge» rings)))))) ⌝ }
 {
     if end_node != edges {
         return true;
@@ -75,7 +76,9 @@ pub(crate) fn sizes_wrong(
     start_edge: &[u32],
     first_edge: &[u32],
 ) -> bool
-    ensures { λ r. ⌜ r ≡ sizesWrong (tile (edges (now («start_node» .entry)) (now («end_node» .entry)) (now («right_face» .entry)) (now («left_face» .entry)) (now («right_edge» .entry)) (now («left_edge» .entry))) (now («ring_ptr» .entry)) (now («fac_id» .entry)) (now («start_edge» .entry)) (now («first_edge» .entry))) ⌝ }
+    ensures { λ r. ⌜ r ≡ sizesWrong (tile (edges (now («start_node» .entry)) (now («end_node» .entry)) (now («right_face» .entry)) (now
+            («left_face» .entry)) (now («right_edge» .entry)) (now («left_edge» .entry))) (now («ring_ptr» .entry)) (now («fac_id» .entry)) (now
+            («start_edge» .entry)) (now («first_edge» .entry))) ⌝ }
 {
     let edges = start_node.len();
     let faces = ring_ptr.len();

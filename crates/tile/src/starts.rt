@@ -83,7 +83,8 @@ fn bad_start(
     fac_id: &[u32],
     start_edge: &[u32],
 ) -> usize
-    ensures { λ r. ⌜ r ≡ lowest (λ (r : ℕ). startMissing edges faces (length (now («fac_id» .entry))) (now («right_face» .entry)) (now («left_face» .entry)) (entry (now («fac_id» .entry)) r) (entry (now («start_edge» .entry)) r)) (length (now («fac_id» .entry))) ⌝ }
+    ensures { λ r. ⌜ r ≡ lowest (λ (r : ℕ). startMissing edges faces (length (now («fac_id» .entry))) (now («right_face» .entry)) (now
+            («left_face» .entry)) (entry (now («fac_id» .entry)) r) (entry (now («start_edge» .entry)) r)) (length (now («fac_id» .entry))) ⌝ }
 {
     let rings = fac_id.len();
     let mut i: usize = 0;
@@ -108,7 +109,8 @@ pub(crate) fn judge_rings(
     start_edge: &[u32],
     first_edge: &[u32],
 ) -> Refusal
-    ensures { λ r. ⌜ r ≡ firstOf (ringTests (now («start_node» .entry)) (now («end_node» .entry)) (now («right_face» .entry)) (now («left_face» .entry)) (now («ring_ptr» .entry)) (now («fac_id» .entry)) (now («start_edge» .entry)) (now («first_edge» .entry))) ⌝ }
+    ensures { λ r. ⌜ r ≡ firstOf (ringTests (now («start_node» .entry)) (now («end_node» .entry)) (now («right_face» .entry)) (now
+            («left_face» .entry)) (now («ring_ptr» .entry)) (now («fac_id» .entry)) (now («start_edge» .entry)) (now («first_edge» .entry))) ⌝ }
 {
     let faces = ring_ptr.len();
     let a = refusal::refuse_at(27, columns::bad_node(start_node, end_node, first_edge));

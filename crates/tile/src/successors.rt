@@ -73,7 +73,8 @@ fn linked_side(
     face: u32,
 ) -> usize
     requires { ⌜ Regular (edges (now «start_node») (now «end_node») (now «right_face») (now «left_face») (now «right_edge») (now «left_edge»)) ⌝ }
-    ensures { λ r. ⌜ r ≡ sideOf (leavingEdge (edges (now («start_node» .entry)) (now («end_node» .entry)) (now («right_face» .entry)) (now («left_face» .entry)) (now («right_edge» .entry)) (now («left_edge» .entry))) k node face) ⌝ }
+    ensures { λ r. ⌜ r ≡ sideOf (leavingEdge (edges (now («start_node» .entry)) (now («end_node» .entry)) (now («right_face» .entry)) (now
+            («left_face» .entry)) (now («right_edge» .entry)) (now («left_edge» .entry))) k node face) ⌝ }
 {
     let e = k as usize;
     if e == 0 {
@@ -105,7 +106,8 @@ pub(crate) fn side_after(
 ) -> usize
     requires { ⌜ Regular (edges (now «start_node») (now «end_node») (now «right_face») (now «left_face») (now «right_edge») (now «left_edge»)) ⌝ }
     requires { ⌜ s ≤ 2 * length (now «start_node») ⌝ }
-    ensures { λ r. ⌜ r ≡ after (edges (now («start_node» .entry)) (now («end_node» .entry)) (now («right_face» .entry)) (now («left_face» .entry)) (now («right_edge» .entry)) (now («left_edge» .entry))) s ⌝ }
+    ensures { λ r. ⌜ r ≡ after (edges (now («start_node» .entry)) (now («end_node» .entry)) (now («right_face» .entry)) (now («left_face» .entry))
+            (now («right_edge» .entry)) (now («left_edge» .entry))) s ⌝ }
 {
     if s == 0 {
         return 0;

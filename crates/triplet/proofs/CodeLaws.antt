@@ -1,4 +1,4 @@
--- The laws of codes, widths and the type byte. Assumes nothing.
+-- The laws of codes, widths and the type byte.
 use mathlib.Core.Path.{_≡_, refl, _∙_}
 use mathlib.Core.Bool.{Bool, true, false, cond}
 use Prim.Native.Nat.{ℕ, zero, suc, _+_, _*_, _/_, _%_, _^_, _≤_, _<_}

@@ -1,4 +1,4 @@
--- A triplet that was read lies within its bytes, and bytes after it do not matter. Assumes nothing.
+-- A triplet that was read lies within its bytes, and bytes after it do not matter.
 use mathlib.Core.Path.{_≡_, sym, ap, _∙_}
 use mathlib.Core.List.{List, [], _++_, append-nil}
 use Prim.Native.Nat.{ℕ, _+_, _≤_}

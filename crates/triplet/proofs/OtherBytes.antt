@@ -1,4 +1,4 @@
--- The writer "changes no other byte": outside the written bytes the row is as it was, and as long. Assumes nothing.
+-- The writer "changes no other byte": outside the written bytes the row is as it was, and as long.
 use mathlib.Core.Path.{_≡_, refl, sym, ap, _∙_}
 use mathlib.Core.List.{List, _++_}
 use Prim.Native.Nat.{ℕ, _+_, _≤_, _<_}

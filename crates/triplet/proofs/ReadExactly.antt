@@ -1,5 +1,4 @@
 -- A triplet is read exactly when the bytes begin with it, and refused at a place exactly when they are bad there.
--- Assumes nothing.
 use mathlib.Core.Path.{_≡_, refl, sym, ap, _∙_}
 use mathlib.Core.Logic.{_↔_}
 use mathlib.Core.Bool.{Bool, true, false, cond}
@@ -21,7 +20,8 @@ use Rattle.triplet.specs.declared.Part.the-variants.{Reads, Bad}
 use Rattle.triplet.specs.declared.Triplet.{Triplet}
 use Rattle.triplet.specs.declared.Triplet.the-variants.{Is, Refused}
 use Rattle.triplet.specs.Triplet.{badTriplet, largestPart, absent, reservedBits, partAt, ids, badAt, onPart, partsOf, tripletOf}
-use Rattle.triplet.specs.Words.{PartIs, PartBad, TypeByte, BeginsWith, BadAt, type-byte-bad, id-bad, tile-bad, other-bad, typeOf, idWidth, tileWidth, otherWidth, tilePlace, otherPlace, endPlace}
+use Rattle.triplet.specs.Words.{PartIs, PartBad, TypeByte, BeginsWith, BadAt, type-byte-bad, id-bad, tile-bad, other-bad, typeOf}
+use Rattle.triplet.specs.Words.{idWidth, tileWidth, otherWidth, tilePlace, otherPlace, endPlace}
 
 -- ---- a part
 

@@ -1,5 +1,4 @@
 -- The bytes of a triplet are read as it: in the shortest form, in every longer one, and at any place of a row.
--- Assumes nothing.
 use mathlib.Core.Path.{_≡_, refl, sym, ap, _∙_}
 use mathlib.Core.List.{List, [], _∷_, _++_, append-assoc}
 use Prim.Native.Nat.{ℕ, _+_, _^_, _≤_, _<_}

@@ -1,4 +1,4 @@
--- Bytes that are read as a triplet are one of its forms, and none is shorter than the one that is written. Assumes nothing.
+-- Bytes that are read as a triplet are one of its forms, and none is shorter than the one that is written.
 use mathlib.Core.Path.{_≡_, sym, ap, _∙_}
 use mathlib.Core.List.{List, [], _∷_, append-assoc}
 use Prim.Native.Nat.{ℕ, _≤_, _<_}

@@ -1,4 +1,4 @@
--- What the writer's steps leave, and its tests in order. Assumes nothing.
+-- What the writer's steps leave, and its tests in order.
 use mathlib.Core.Path.{_≡_, refl, ap, _∙_}
 use mathlib.Core.List.{List, [], _∷_, _++_, append-assoc}
 use Prim.Native.Nat.{ℕ, suc, _+_, _≤_, _<_}

@@ -1,5 +1,5 @@
 -- A triplet is written exactly when it fits, and refused with the first of the tests that refuses: in words, and as the list that
--- the code goes through. Assumes nothing.
+-- the code goes through.
 use mathlib.Core.Path.{_≡_, sym, ap, subst, _∙_}
 use mathlib.Core.Logic.{_↔_}
 use mathlib.Core.List.{[], _∷_}

@@ -141,6 +141,7 @@ fn read_parts(s: &[u8], w1: usize, w2: usize, w3: usize, order: Order) -> Triple
 }
 
 // The triplet id that the bytes begin with. Bytes after it are not looked at.
+// Example: `64 06 04 01 D2` under `L` is 6, 260, 210 in 5 bytes; a type byte `41` is refused with 11 at 0.
 pub fn read(s: &[u8], order: Order) -> Triplet
     ensures { λ r. ⌜ r ≡ tripletOf order (now (s .entry)) ⌝ }
 {
@@ -248,6 +249,7 @@ fn put(s: &mut [u8], ids: Ids, order: Order)
 }
 
 // Writes the triplet into the row at a place and changes no other byte; where it is refused it changes none.
+// Example: 1, 0, 0 is written as `40 01`. Of a row of 10 bytes, 6, 260, 210 at 5 fills it to the end, and at 6 is refused with 14 at 11.
 pub fn write(row: &mut [u8], at: usize, ids: Ids, order: Order) -> Written
     ensures { λ r. ⌜ r ≡ writtenOf (length (now (row .entry))) at ids ⌝ }
     ensures { λ r. ⌜ now (row .exit) ≡ rowAfter r order (now (row .entry)) at ids ⌝ }

@@ -1,4 +1,4 @@
--- What a byte is, beside its kind. Assumes nothing.
+-- What a byte is, beside its kind.
 use mathlib.Core.Path.{_≡_, refl}
 use mathlib.Core.Bool.{Bool, true, false, cond}
 use Prim.Native.Nat.{ℕ}

@@ -1,5 +1,5 @@
 -- A text is read as a height exactly when it is one, with the value that its digits say, and is refused at exactly the place
--- where it leaves the wave heights. Assumes nothing.
+-- where it leaves the wave heights.
 use mathlib.Core.Path.{_≡_, refl, sym, ap, subst, _∙_}
 use mathlib.Core.Bool.{Bool, true, false, cond}
 use mathlib.Core.List.{List, [], _∷_}

@@ -1,4 +1,4 @@
--- What is left of a wave height in each state of its reading, and that the machine reads exactly that. Assumes nothing.
+-- What is left of a wave height in each state of its reading, and that the machine reads exactly that.
 use mathlib.Core.Path.{_≡_, refl, sym, ap, _∙_}
 use mathlib.Core.Bool.{Bool, true, false, cond}
 use mathlib.Core.List.{List, [], _∷_, _++_}

@@ -1,4 +1,4 @@
--- In every state that a reading reaches the numbers are small enough that no sum or product wraps. Assumes nothing.
+-- In every state that a reading reaches the numbers are small enough that no sum or product wraps.
 use mathlib.Core.Path.{_≡_, refl, ap}
 use Prim.Native.Nat.{ℕ, suc, _-_, _*_, _^_, _≤_, _<_}
 use native.Mathlib.Omega.{arith}

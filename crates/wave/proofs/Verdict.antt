@@ -1,4 +1,4 @@
--- A judgement says exactly which number is above which. Assumes nothing.
+-- A judgement says exactly which number is above which.
 use mathlib.Core.Path.{_≡_, refl, subst, _∙_}
 use mathlib.Core.Bool.{Bool, true, false, cond}
 use mathlib.Core.List.{List, [], _∷_}

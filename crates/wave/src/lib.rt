@@ -162,6 +162,7 @@ fn finish(st: State, at: usize) -> Height
 }
 
 // A wave height in whole thousandths, or 16 at the first bad byte or the text's length.
+// Example: `2.5` is 2,500; four spaces are refused at 0, and `2.` at 2, where a digit is still wanted.
 pub fn thousandths(text: &[u8]) -> Height
     ensures { λ r. ⌜ r ≡ heightOf (now (text .entry)) ⌝ }
 {
@@ -182,6 +183,7 @@ pub fn thousandths(text: &[u8]) -> Height
 }
 
 // Whether a measured height is not above the limit. Of two bad texts the limit's is refused.
+// Example: against the limit `2.5`, `10.0` is too high and `2.5` passes.
 pub fn passes(measured: &[u8], limit: &[u8]) -> Judgement
     ensures { λ r. ⌜ r ≡ judgementOf (now (measured .entry)) (now (limit .entry)) ⌝ }
 {

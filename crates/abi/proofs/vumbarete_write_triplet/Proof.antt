@@ -1,23 +1,6 @@
 use borrow.Author.Needs.{needs}
 use Rattle.abi.proofs.vumbarete_write_triplet.Statement.{statement}
 use Rattle.abi.proofs.vumbarete_write_triplet.Tie as tie
-use Rattle.abi.proofs.vumbarete_write_triplet.Reads as reads
-use Rattle.abi.proofs.vumbarete_write_triplet.Lts as lts
-use Rattle.abi.proofs.order_for.Reads as order-for-reads
-use Rattle.abi.proofs.plain_written.Reads as plain-written-reads
-use Rattle.triplet.proofs.write.Reads as write-reads
-
-order-for-requires : tie.Need-order-for-requires
-order-for-requires c κs = search needs
-
-write-requires : tie.Need-write-requires
-write-requires c κs = search needs
-
-plain-written-requires : tie.Need-plain-written-requires
-plain-written-requires c κs = search needs
-
-same-length : tie.Need-same-length
-same-length c = search needs
 
 returns : tie.Need-returns
 returns c =
@@ -28,4 +11,4 @@ returns c =
 pub vumbarete-write-triplet-spec : {M : Type 1} → statement M
 vumbarete-write-triplet-spec =
     tie.close
-    (tie.spec order-for-requires write-requires plain-written-requires same-length returns)
+    (tie.spec (λ c κs. search needs) (λ c κs. search needs) (λ c κs. search needs) (λ c. search needs) returns)

@@ -1,4 +1,4 @@
--- `greater32`: by its one test. Assumes nothing.
+-- `greater32`: by its one test.
 use Rattle.bounds.proofs.greater32.Statement.{statement}
 use Rattle.bounds.proofs.greater32.Tie as tie
 

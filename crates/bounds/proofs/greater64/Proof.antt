@@ -1,4 +1,4 @@
--- `greater64`: by its one test. Assumes nothing.
+-- `greater64`: by its one test.
 use Rattle.bounds.proofs.greater64.Statement.{statement}
 use Rattle.bounds.proofs.greater64.Tie as tie
 

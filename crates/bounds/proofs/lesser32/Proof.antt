@@ -1,4 +1,4 @@
--- `lesser32`: by its one test. Assumes nothing.
+-- `lesser32`: by its one test.
 use Rattle.bounds.proofs.lesser32.Statement.{statement}
 use Rattle.bounds.proofs.lesser32.Tie as tie
 

@@ -1,4 +1,4 @@
--- `lesser64`: by its one test. Assumes nothing.
+-- `lesser64`: by its one test.
 use Rattle.bounds.proofs.lesser64.Statement.{statement}
 use Rattle.bounds.proofs.lesser64.Tie as tie
 

@@ -1,19 +1,10 @@
--- `read_point32`: the tests of the two patterns are the tests of their floats (the laws of reading, over the width). Assumes nothing.
+-- `read_point32`: the tests of the two patterns are the tests of their floats (the laws of reading, over the width).
 use borrow.Author.Needs.{needs}
 use lib.Ieee.{binary32}
 use Rattle.bounds.proofs.FiniteLaws.{finite-no-nan}
 use Rattle.bounds.proofs.ReadLaws.{point-made, point-not-y, point-not-x}
 use Rattle.bounds.proofs.read_point32.Statement.{statement}
 use Rattle.bounds.proofs.read_point32.Tie as tie
-
-read4-requires : tie.Need-read4-requires
-read4-requires c κs = search needs
-
-add-read4 : tie.Need-add-read4
-add-read4 c = search needs
-
-read4-requires-2 : tie.Need-read4-requires-2
-read4-requires-2 c κs = search needs
 
 float-from-bits-t13 : tie.Need-float-from-bits-t13
 float-from-bits-t13 c = finite-no-nan binary32 _ (c .before .if1 .taken)
@@ -23,26 +14,37 @@ float-from-bits-t14 c = finite-no-nan binary32 _ (c .if2 .taken)
 
 returns : tie.Need-returns
 returns c =
-    let a = c .before .before .before .before .before .args in
-    point-made binary32 (a .order) (a .bytes .now) (a .place) _ _ (c .before .before .before .read4 .ensures) (c .before .before .read42 .ensures) (c .before .if1 .taken) (c .if2 .taken)
+    let at-if1 = c .before in
+    let at-read42 = at-if1 .before in
+    let at-read4 = at-read42 .before in
+    let start = at-read4 .before .before in
+    let a = start .args in
+    point-made binary32 (a .order) (a .bytes .now) (a .place) _ _ (at-read4 .read4 .ensures) (at-read42 .read42 .ensures) (at-if1 .if1 .taken) (c .if2 .taken)
 
 returns-2 : tie.Need-returns-2
 returns-2 c =
-    let a = c .before .before .before .before .before .args in
-    point-not-y binary32 (a .order) (a .bytes .now) (a .place) _ _ (c .before .before .before .read4 .ensures) (c .before .before .read42 .ensures) (c .before .if1 .taken) (c .if2 .left)
+    let at-if1 = c .before in
+    let at-read42 = at-if1 .before in
+    let at-read4 = at-read42 .before in
+    let start = at-read4 .before .before in
+    let a = start .args in
+    point-not-y binary32 (a .order) (a .bytes .now) (a .place) _ _ (at-read4 .read4 .ensures) (at-read42 .read42 .ensures) (at-if1 .if1 .taken) (c .if2 .left)
 
 returns-3 : tie.Need-returns-3
 returns-3 c =
-    let a = c .before .before .before .before .args in
-    point-not-x binary32 (a .order) (a .bytes .now) (a .place) _ _ (c .before .before .read4 .ensures) (c .before .read42 .ensures) (c .if1 .left)
+    let at-read42 = c .before in
+    let at-read4 = at-read42 .before in
+    let start = at-read4 .before .before in
+    let a = start .args in
+    point-not-x binary32 (a .order) (a .bytes .now) (a .place) _ _ (at-read4 .read4 .ensures) (at-read42 .read42 .ensures) (c .if1 .left)
 
 pub read-point32-spec : {M : Type 1} → statement M
 read-point32-spec =
     tie.close
     (tie.spec
-    read4-requires
-    add-read4
-    read4-requires-2
+    (λ c κs. search needs)
+    (λ c. search needs)
+    (λ c κs. search needs)
     float-from-bits-t13
     float-from-bits-t14
     returns

@@ -1,19 +1,10 @@
--- `read_point64`: the tests of the two patterns are the tests of their floats (the laws of reading, over the width). Assumes nothing.
+-- `read_point64`: the tests of the two patterns are the tests of their floats (the laws of reading, over the width).
 use borrow.Author.Needs.{needs}
 use lib.Ieee.{binary64}
 use Rattle.bounds.proofs.FiniteLaws.{finite-no-nan}
 use Rattle.bounds.proofs.ReadLaws.{point-made, point-not-y, point-not-x}
 use Rattle.bounds.proofs.read_point64.Statement.{statement}
 use Rattle.bounds.proofs.read_point64.Tie as tie
-
-read8-requires : tie.Need-read8-requires
-read8-requires c κs = search needs
-
-add-read8 : tie.Need-add-read8
-add-read8 c = search needs
-
-read8-requires-2 : tie.Need-read8-requires-2
-read8-requires-2 c κs = search needs
 
 float-from-bits-t13 : tie.Need-float-from-bits-t13
 float-from-bits-t13 c = finite-no-nan binary64 _ (c .before .if1 .taken)
@@ -23,26 +14,37 @@ float-from-bits-t14 c = finite-no-nan binary64 _ (c .if2 .taken)
 
 returns : tie.Need-returns
 returns c =
-    let a = c .before .before .before .before .before .args in
-    point-made binary64 (a .order) (a .bytes .now) (a .place) _ _ (c .before .before .before .read8 .ensures) (c .before .before .read82 .ensures) (c .before .if1 .taken) (c .if2 .taken)
+    let at-if1 = c .before in
+    let at-read82 = at-if1 .before in
+    let at-read8 = at-read82 .before in
+    let start = at-read8 .before .before in
+    let a = start .args in
+    point-made binary64 (a .order) (a .bytes .now) (a .place) _ _ (at-read8 .read8 .ensures) (at-read82 .read82 .ensures) (at-if1 .if1 .taken) (c .if2 .taken)
 
 returns-2 : tie.Need-returns-2
 returns-2 c =
-    let a = c .before .before .before .before .before .args in
-    point-not-y binary64 (a .order) (a .bytes .now) (a .place) _ _ (c .before .before .before .read8 .ensures) (c .before .before .read82 .ensures) (c .before .if1 .taken) (c .if2 .left)
+    let at-if1 = c .before in
+    let at-read82 = at-if1 .before in
+    let at-read8 = at-read82 .before in
+    let start = at-read8 .before .before in
+    let a = start .args in
+    point-not-y binary64 (a .order) (a .bytes .now) (a .place) _ _ (at-read8 .read8 .ensures) (at-read82 .read82 .ensures) (at-if1 .if1 .taken) (c .if2 .left)
 
 returns-3 : tie.Need-returns-3
 returns-3 c =
-    let a = c .before .before .before .before .args in
-    point-not-x binary64 (a .order) (a .bytes .now) (a .place) _ _ (c .before .before .read8 .ensures) (c .before .read82 .ensures) (c .if1 .left)
+    let at-read82 = c .before in
+    let at-read8 = at-read82 .before in
+    let start = at-read8 .before .before in
+    let a = start .args in
+    point-not-x binary64 (a .order) (a .bytes .now) (a .place) _ _ (at-read8 .read8 .ensures) (at-read82 .read82 .ensures) (c .if1 .left)
 
 pub read-point64-spec : {M : Type 1} → statement M
 read-point64-spec =
     tie.close
     (tie.spec
-    read8-requires
-    add-read8
-    read8-requires-2
+    (λ c κs. search needs)
+    (λ c. search needs)
+    (λ c κs. search needs)
     float-from-bits-t13
     float-from-bits-t14
     returns

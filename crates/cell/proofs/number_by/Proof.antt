@@ -4,28 +4,18 @@ use Rattle.cell.specs.Numbers.{numberBy}
 use Rattle.cell.proofs.number_by.Statement.{statement}
 use Rattle.cell.proofs.number_by.Tie as tie
 
-read4-requires : tie.Need-read4-requires
-read4-requires c κs = search needs
-
-natural-of-requires : tie.Need-natural-of-requires
-natural-of-requires c κs = search needs
-
 returns : tie.Need-returns
 unfolding numberBy
 returns c = simp (← c .natural-of .ensures, ← c .before .read4 .ensures, eq-eqb _ _ (c .before .before .if1 .taken))
 
-row-from-requires : tie.Need-row-from-requires
-row-from-requires c κs = search needs
-
-read-requires : tie.Need-read-requires
-read-requires c κs = search needs
-
-internal-id-requires : tie.Need-internal-id-requires
-internal-id-requires c κs = search needs
-
 returns-2 : tie.Need-returns-2
 unfolding numberBy
-returns-2 c = simp (← c .internal-id .ensures, ← c .before .read .ensures, ← c .before .before .row-from .ensures, eq-eqb _ _ (c .before .before .before .if2 .taken), ne-eqb _ _ (c .before .before .before .before .if1 .left))
+returns-2 c =
+    let at-read = c .before in
+    let at-row-from = at-read .before in
+    let at-if2 = at-row-from .before in
+    let at-if1 = at-if2 .before in
+    simp (← c .internal-id .ensures, ← at-read .read .ensures, ← at-row-from .row-from .ensures, eq-eqb _ _ (at-if2 .if2 .taken), ne-eqb _ _ (at-if1 .if1 .left))
 
 returns-3 : tie.Need-returns-3
 unfolding numberBy
@@ -35,11 +25,11 @@ pub number-by-spec : {M : Type 1} → statement M
 number-by-spec =
     tie.close
     (tie.spec
-    read4-requires
-    natural-of-requires
+    (λ c κs. search needs)
+    (λ c κs. search needs)
     returns
-    row-from-requires
-    read-requires
-    internal-id-requires
+    (λ c κs. search needs)
+    (λ c κs. search needs)
+    (λ c κs. search needs)
     returns-2
     returns-3)

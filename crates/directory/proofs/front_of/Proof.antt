@@ -10,17 +10,8 @@ use Rattle.directory.proofs.front_of.Tie as tie
 returns : tie.Need-returns
 returns c = sym (take-all ((c .before .args) .n) ((c .before .args) .column .now) ((c .if1) .taken))
 
-sub-result : tie.Need-sub-result
-sub-result c = search needs
-
-part-result-start : tie.Need-part-result-start
-part-result-start c = search needs
-
-part-result-end : tie.Need-part-result-end
-part-result-end c = search needs
-
 returns-2 : tie.Need-returns-2
 returns-2 c = ap (λ (n : ℕ). take n ((c .before .before .args) .column .now)) (sub-zero ((c .before .before .args) .n))
 
 pub front-of-spec : {M : Type 1} → statement M
-front-of-spec = tie.close (tie.spec returns sub-result part-result-start part-result-end returns-2)
+front-of-spec = tie.close (tie.spec returns (λ c. search needs) (λ c. search needs) (λ c. search needs) returns-2)

@@ -2,84 +2,59 @@ use borrow.Author.Needs.{needs}
 use Rattle.directory.proofs.walk_ring.Statement.{statement}
 use Rattle.directory.proofs.walk_ring.Tie as tie
 
-front-of-requires : tie.Need-front-of-requires
-front-of-requires c κs = search needs
-
-front-of-requires-2 : tie.Need-front-of-requires-2
-front-of-requires-2 c κs = search needs
-
-front-of-requires-3 : tie.Need-front-of-requires-3
-front-of-requires-3 c κs = search needs
-
-front-of-requires-4 : tie.Need-front-of-requires-4
-front-of-requires-4 c κs = search needs
-
-front-of-requires-5 : tie.Need-front-of-requires-5
-front-of-requires-5 c κs = search needs
-
-front-of-requires-6 : tie.Need-front-of-requires-6
-front-of-requires-6 c κs = search needs
-
-front-of-requires-7 : tie.Need-front-of-requires-7
-front-of-requires-7 c κs = search needs
-
-front-of-requires-8 : tie.Need-front-of-requires-8
-front-of-requires-8 c κs = search needs
-
-front-of-requires-9 : tie.Need-front-of-requires-9
-front-of-requires-9 c κs = search needs
-
-front-of-requires-10 : tie.Need-front-of-requires-10
-front-of-requires-10 c κs = search needs
-
-walk-requires : tie.Need-walk-requires
-walk-requires c κs = search needs
-
-same-length : tie.Need-same-length
-same-length c = search needs
-
 returns : tie.Need-returns
-returns c = (
-  rw (
-    (c .before .before .before .before .before .before .before .before .before .before .before .before .before .front-of) .ensures,
-    (c .before .before .before .before .before .before .before .before .before .before .before .before .front-of2) .ensures,
-    (c .before .before .before .before .before .before .before .before .before .before .before .front-of3) .ensures,
-    (c .before .before .before .before .before .before .before .before .before .before .front-of4) .ensures,
-    (c .before .before .before .before .before .before .before .before .before .front-of5) .ensures,
-    (c .before .before .before .before .before .before .before .before .front-of6) .ensures,
-    (c .before .before .before .before .before .before .before .front-of7) .ensures,
-    (c .before .before .before .before .before .before .front-of8) .ensures,
-    (c .before .before .before .before .before .front-of9) .ensures,
-    (c .before .before .before .before .front-of10) .ensures,
-  ) at ((c .before .before .walk) .ensures .0),
-  rw (
-    (c .before .before .before .before .before .before .before .before .before .before .before .before .before .front-of) .ensures,
-    (c .before .before .before .before .before .before .before .before .before .before .before .before .front-of2) .ensures,
-    (c .before .before .before .before .before .before .before .before .before .before .before .front-of3) .ensures,
-    (c .before .before .before .before .before .before .before .before .before .before .front-of4) .ensures,
-    (c .before .before .before .before .before .before .before .before .before .front-of5) .ensures,
-    (c .before .before .before .before .before .before .before .before .front-of6) .ensures,
-    (c .before .before .before .before .before .before .before .front-of7) .ensures,
-    (c .before .before .before .before .before .before .front-of8) .ensures,
-    (c .before .before .before .before .before .front-of9) .ensures,
-    (c .before .before .before .before .front-of10) .ensures,
-  ) at ((c .before .before .walk) .ensures .1),
-)
+returns c =
+    let at-walk = c .before .before in
+    let at-front-of10 = at-walk .before .before in
+    let at-front-of9 = at-front-of10 .before in
+    let at-front-of8 = at-front-of9 .before in
+    let at-front-of7 = at-front-of8 .before in
+    let at-front-of6 = at-front-of7 .before in
+    let at-front-of5 = at-front-of6 .before in
+    let at-front-of4 = at-front-of5 .before in
+    let at-front-of3 = at-front-of4 .before in
+    let at-front-of2 = at-front-of3 .before in
+    let at-front-of = at-front-of2 .before in (
+      rw (
+        (at-front-of .front-of) .ensures,
+        (at-front-of2 .front-of2) .ensures,
+        (at-front-of3 .front-of3) .ensures,
+        (at-front-of4 .front-of4) .ensures,
+        (at-front-of5 .front-of5) .ensures,
+        (at-front-of6 .front-of6) .ensures,
+        (at-front-of7 .front-of7) .ensures,
+        (at-front-of8 .front-of8) .ensures,
+        (at-front-of9 .front-of9) .ensures,
+        (at-front-of10 .front-of10) .ensures,
+      ) at (at-walk .walk .ensures .0),
+      rw (
+        (at-front-of .front-of) .ensures,
+        (at-front-of2 .front-of2) .ensures,
+        (at-front-of3 .front-of3) .ensures,
+        (at-front-of4 .front-of4) .ensures,
+        (at-front-of5 .front-of5) .ensures,
+        (at-front-of6 .front-of6) .ensures,
+        (at-front-of7 .front-of7) .ensures,
+        (at-front-of8 .front-of8) .ensures,
+        (at-front-of9 .front-of9) .ensures,
+        (at-front-of10 .front-of10) .ensures,
+      ) at (at-walk .walk .ensures .1),
+    )
 
 pub walk-ring-spec : {M : Type 1} → statement M
 walk-ring-spec =
     tie.close
     (tie.spec
-    front-of-requires
-    front-of-requires-2
-    front-of-requires-3
-    front-of-requires-4
-    front-of-requires-5
-    front-of-requires-6
-    front-of-requires-7
-    front-of-requires-8
-    front-of-requires-9
-    front-of-requires-10
-    walk-requires
-    same-length
+    (λ c κs. search needs)
+    (λ c κs. search needs)
+    (λ c κs. search needs)
+    (λ c κs. search needs)
+    (λ c κs. search needs)
+    (λ c κs. search needs)
+    (λ c κs. search needs)
+    (λ c κs. search needs)
+    (λ c κs. search needs)
+    (λ c κs. search needs)
+    (λ c κs. search needs)
+    (λ c. search needs)
     returns)

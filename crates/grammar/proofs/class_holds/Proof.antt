@@ -3,27 +3,6 @@ use Rattle.grammar.specs.Fields.{holds}
 use Rattle.grammar.proofs.class_holds.Statement.{statement}
 use Rattle.grammar.proofs.class_holds.Tie as tie
 
-enum-told : tie.Need-enum-told
-enum-told c = search needs
-
-is-letter-requires : tie.Need-is-letter-requires
-is-letter-requires c κs = search needs
-
-enum-told-2 : tie.Need-enum-told-2
-enum-told-2 c = search needs
-
-enum-told-3 : tie.Need-enum-told-3
-enum-told-3 c = search needs
-
-is-plain-requires : tie.Need-is-plain-requires
-is-plain-requires c κs = search needs
-
-enum-told-4 : tie.Need-enum-told-4
-enum-told-4 c = search needs
-
-is-digit-requires : tie.Need-is-digit-requires
-is-digit-requires c κs = search needs
-
 returns : tie.Need-returns
 unfolding holds
 returns c = simp (← c .is-letter .ensures, c .before .enum-told .given .1)
@@ -44,13 +23,13 @@ pub class-holds-spec : {M : Type 1} → statement M
 class-holds-spec =
     tie.close
     (tie.spec
-    enum-told
-    is-letter-requires
-    enum-told-2
-    enum-told-3
-    is-plain-requires
-    enum-told-4
-    is-digit-requires
+    (λ c. search needs)
+    (λ c κs. search needs)
+    (λ c. search needs)
+    (λ c. search needs)
+    (λ c κs. search needs)
+    (λ c. search needs)
+    (λ c κs. search needs)
     returns
     returns-2
     returns-3

@@ -4,9 +4,6 @@ use Rattle.grammar.specs.Scan.{closes}
 use Rattle.grammar.proofs.closes_at.Statement.{statement}
 use Rattle.grammar.proofs.closes_at.Tie as tie
 
-rule-of-requires : tie.Need-rule-of-requires
-rule-of-requires c κs = search needs
-
 returns : tie.Need-returns
 unfolding closes
 returns c = simp (eq-eqb _ _ (c .if1 .taken), ← c .before .rule-of .ensures)
@@ -16,4 +13,4 @@ unfolding closes
 returns-2 c = simp (ne-eqb _ _ (c .if1 .left), ← c .before .rule-of .ensures)
 
 pub closes-at-spec : {M : Type 1} → statement M
-closes-at-spec = tie.close (tie.spec rule-of-requires returns returns-2)
+closes-at-spec = tie.close (tie.spec (λ c κs. search needs) returns returns-2)

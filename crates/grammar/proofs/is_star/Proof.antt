@@ -4,21 +4,6 @@ use Rattle.grammar.specs.Scan.{stars}
 use Rattle.grammar.proofs.is_star.Statement.{statement}
 use Rattle.grammar.proofs.is_star.Tie as tie
 
-enum-told : tie.Need-enum-told
-enum-told c = search needs
-
-enum-told-2 : tie.Need-enum-told-2
-enum-told-2 c = search needs
-
-enum-told-3 : tie.Need-enum-told-3
-enum-told-3 c = search needs
-
-enum-told-4 : tie.Need-enum-told-4
-enum-told-4 c = search needs
-
-enum-told-5 : tie.Need-enum-told-5
-enum-told-5 c = search needs
-
 returns : tie.Need-returns
 unfolding stars
 returns c = simp (eq-eqb _ _ (c .if1 .taken), c .before .enum-told .given .1)
@@ -47,11 +32,11 @@ pub is-star-spec : {M : Type 1} → statement M
 is-star-spec =
     tie.close
     (tie.spec
-    enum-told
-    enum-told-2
-    enum-told-3
-    enum-told-4
-    enum-told-5
+    (λ c. search needs)
+    (λ c. search needs)
+    (λ c. search needs)
+    (λ c. search needs)
+    (λ c. search needs)
     returns
     returns-2
     returns-3

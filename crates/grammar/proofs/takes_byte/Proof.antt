@@ -4,12 +4,6 @@ use Rattle.grammar.specs.Scan.{takes}
 use Rattle.grammar.proofs.takes_byte.Statement.{statement}
 use Rattle.grammar.proofs.takes_byte.Tie as tie
 
-rule-of-requires : tie.Need-rule-of-requires
-rule-of-requires c κs = search needs
-
-is-allowed-requires : tie.Need-is-allowed-requires
-is-allowed-requires c κs = search needs
-
 returns : tie.Need-returns
 unfolding takes
 returns c = simp (← c .is-allowed .ensures, lt-ltb _ _ (c .before .if1 .taken), ← c .before .before .rule-of .ensures)
@@ -19,4 +13,4 @@ unfolding takes
 returns-2 c = simp (le-ltb _ _ (c .if1 .left), ← c .before .rule-of .ensures)
 
 pub takes-byte-spec : {M : Type 1} → statement M
-takes-byte-spec = tie.close (tie.spec rule-of-requires is-allowed-requires returns returns-2)
+takes-byte-spec = tie.close (tie.spec (λ c κs. search needs) (λ c κs. search needs) returns returns-2)

@@ -2,11 +2,8 @@ use borrow.Author.Needs.{needs}
 use Rattle.header.proofs.blank_layout.Statement.{statement}
 use Rattle.header.proofs.blank_layout.Tie as tie
 
-blank-column-requires : tie.Need-blank-column-requires
-blank-column-requires c κs = search needs
-
 returns : tie.Need-returns
 returns c = simp (← c .blank-column .ensures)
 
 pub blank-layout-spec : {M : Type 1} → statement M
-blank-layout-spec = tie.close (tie.spec blank-column-requires returns)
+blank-layout-spec = tie.close (tie.spec (λ c κs. search needs) returns)

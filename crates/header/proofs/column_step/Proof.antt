@@ -6,47 +6,47 @@ use borrow.Author.Needs.{needs}
 use Rattle.header.proofs.column_step.Statement.{statement}
 use Rattle.header.proofs.column_step.Tie as tie
 
-judge-file-requires : tie.Need-judge-file-requires
-judge-file-requires c κs = search needs
-
-enum-known-facts : tie.Need-enum-known-facts
-enum-known-facts c = search needs
-
-sub-step-in : tie.Need-sub-step-in
-sub-step-in c = search needs
-
-part-step-in-start : tie.Need-part-step-in-start
-part-step-in-start c = search needs
-
 part-step-in-end : tie.Need-part-step-in-end
-part-step-in-end c = let p = sound-passed (c .before .before .before .before .before .args .file .now) _ (sym (c .before .before .before .judge-file .ensures) ∙ c .before .facts .given .1) in omega (arith, p .fits)
+part-step-in-end c =
+    let at-facts = c .before in
+    let at-judge-file = at-facts .before .before in
+    let start = at-judge-file .before .before in
+    let p = sound-passed (start .args .file .now) _ (sym (at-judge-file .judge-file .ensures) ∙ at-facts .facts .given .1) in omega (arith, p .fits)
 
 step-in-requires : tie.Need-step-in-requires
-step-in-requires c κs = let p = sound-passed (c .before .before .before .before .before .before .args .file .now) _ (sym (c .before .before .before .before .judge-file .ensures) ∙ c .before .before .facts .given .1) in omega (arith, p .short)
-
-enum-known-q : tie.Need-enum-known-q
-enum-known-q c = search needs
+step-in-requires c κs =
+    let at-facts = c .before .before in
+    let at-judge-file = at-facts .before .before in
+    let start = at-judge-file .before .before in
+    let p = sound-passed (start .args .file .now) _ (sym (at-judge-file .judge-file .ensures) ∙ at-facts .facts .given .1) in omega (arith, p .short)
 
 returns : tie.Need-returns
 returns c =
-    let args = c .before .before .before .before .before .before .before .args in
-    let p = sound-passed (args .file .now) _ (sym (c .before .before .before .before .before .judge-file .ensures) ∙ c .before .before .before .facts .given .1) in c .step-in .ensures ∙ accepted-step (args .file .now) _ p (args .place)
+    let at-facts = c .before .before .before in
+    let at-judge-file = at-facts .before .before in
+    let start = at-judge-file .before .before in
+    let args = start .args in
+    let p = sound-passed (args .file .now) _ (sym
+    (at-judge-file .judge-file .ensures) ∙ at-facts .facts .given .1) in c .step-in .ensures ∙ accepted-step (args .file .now) _ p (args .place)
 
 returns-2 : tie.Need-returns-2
 returns-2 c =
-    let args = c .before .before .before .before .before .args in
-    let q = refused-by (args .file .now) _ (sym (c .before .before .before .judge-file .ensures) ∙ c .before .q .given .1) in refused-step (args .file .now) _ q (args .place)
+    let at-q = c .before in
+    let at-judge-file = at-q .before .before in
+    let start = at-judge-file .before .before in
+    let args = start .args in
+    let q = refused-by (args .file .now) _ (sym (at-judge-file .judge-file .ensures) ∙ at-q .q .given .1) in refused-step (args .file .now) _ q (args .place)
 
 pub column-step-spec : {M : Type 1} → statement M
 column-step-spec =
     tie.close
     (tie.spec
-    judge-file-requires
-    enum-known-facts
-    sub-step-in
-    part-step-in-start
+    (λ c κs. search needs)
+    (λ c. search needs)
+    (λ c. search needs)
+    (λ c. search needs)
     part-step-in-end
     step-in-requires
-    enum-known-q
+    (λ c. search needs)
     returns
     returns-2)

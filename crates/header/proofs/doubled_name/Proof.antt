@@ -22,24 +22,15 @@ Inv-search head n names later₀ later = (later ≤ n) × None (namedBefore head
 abbrev μ-search : tie.MeasureT-search
 μ-search head n names later₀ later = n - later
 
-gather-names-requires : tie.Need-gather-names-requires Inv-loop μ-loop Inv-search μ-search
-gather-names-requires c κs = search needs
-
 search-holds : tie.Need-search-holds Inv-loop μ-loop Inv-search μ-search
 search-holds c = (omega arith, none-start (namedBefore (c .before .before .args .head .now)))
 
 loop-holds : tie.Need-loop-holds Inv-loop μ-loop Inv-search μ-search
 loop-holds c = (omega arith, none-start (namesAs (c .before .before .before .before .args .head .now) (c .before .search .later)))
 
-mul-same-name : tie.Need-mul-same-name Inv-loop μ-loop Inv-search μ-search
-mul-same-name c = search needs
-
 element-copy-out-same-name :
     tie.Need-element-copy-out-same-name Inv-loop μ-loop Inv-search μ-search
 element-copy-out-same-name c = search needs
-
-mul-same-name-2 : tie.Need-mul-same-name-2 Inv-loop μ-loop Inv-search μ-search
-mul-same-name-2 c = search needs
 
 element-copy-out-same-name-2 :
     tie.Need-element-copy-out-same-name-2 Inv-loop μ-loop Inv-search μ-search
@@ -47,62 +38,66 @@ element-copy-out-same-name-2 c = search needs
 
 same-name-requires : tie.Need-same-name-requires Inv-loop μ-loop Inv-search μ-search
 same-name-requires c κs =
-    let args = c .before .before .before .before .before .before .before .before .args in
-    let gather-names = c .before .before .before .before .before .before .gather-names in
+    let at-loop = c .before .before .before in
+    let at-search = at-loop .before .before in
+    let at-gather-names = at-search .before in
+    let start = at-gather-names .before .before in
+    let args = start .args in
+    let gather-names = at-gather-names .gather-names in
     let ends = name-ends (args .head .now) (args .n) (gather-names .result) (gather-names .ensures) in
-    (ends (c .before .before .before .loop .earlier) (omega arith), ends (c .before .before .before .before .before .search .later) (omega arith))
-
-add-earlier : tie.Need-add-earlier Inv-loop μ-loop Inv-search μ-search
-add-earlier c = search needs
-
-loop-less : tie.Need-loop-less Inv-loop μ-loop Inv-search μ-search
-loop-less c = search needs
+    (ends (at-loop .loop .earlier) (omega arith), ends (at-search .search .later) (omega arith))
 
 loop-again : tie.Need-loop-again Inv-loop μ-loop Inv-search μ-search
 loop-again c =
-    let args = c .before .before .before .before .before .before .before .before .before .before .args in
-    let outer = c .before .before .before .before .before .before .before .search in
-    let loop = c .before .before .before .before .before .loop in
-    let gather-names = c .before .before .before .before .before .before .before .before .gather-names in
+    let at-same-name = c .before in
+    let at-loop = at-same-name .before .before .before .before in
+    let at-search = at-loop .before .before in
+    let at-gather-names = at-search .before in
+    let start = at-gather-names .before .before in
+    let args = start .args in
+    let outer = at-search .search in
+    let loop = at-loop .loop in
+    let gather-names = at-gather-names .gather-names in
     let s = args .head .now in (
       omega arith,
       none-next (namesAs s (outer .later)) (loop .earlier) (loop .inv .1)
-          (pair-tested s (args .n) (gather-names .result) (gather-names .ensures) (loop .earlier) (outer .later) _ (omega arith) (omega arith) (c .before .same-name .ensures) ∙ c .if1 .left),
+          (pair-tested s (args .n) (gather-names .result) (gather-names .ensures) (loop .earlier) (outer .later) _ (omega arith) (omega arith)
+          (at-same-name .same-name .ensures) ∙ c .if1 .left),
     )
-
-add-later : tie.Need-add-later Inv-loop μ-loop Inv-search μ-search
-add-later c = search needs
-
-search-less : tie.Need-search-less Inv-loop μ-loop Inv-search μ-search
-search-less c = search needs
 
 search-again : tie.Need-search-again Inv-loop μ-loop Inv-search μ-search
 search-again c =
-    let outer = c .before .before .before .search in
-    let loop = c .before .loop in
-    let s = c .before .before .before .before .before .before .args .head .now in
+    let at-loop = c .before in
+    let at-search = at-loop .before .before in
+    let start = at-search .before .before .before in
+    let outer = at-search .search in
+    let loop = at-loop .loop in
+    let s = start .args .head .now in
     (omega arith, none-next (namedBefore s) (outer .later) (outer .inv .1) (no-earlier s (loop .earlier) (outer .later) (loop .inv .1) (omega arith)))
-
-add-result : tie.Need-add-result Inv-loop μ-loop Inv-search μ-search
-add-result c = search needs
 
 returns : tie.Need-returns Inv-loop μ-loop Inv-search μ-search
 returns c =
-    let args = c .before .before .before .before .before .args in
+    let at-search-test = c .before in
+    let at-search = at-search-test .before in
+    let at-gather-names = at-search .before in
+    let start = at-gather-names .before .before in
+    let args = start .args in
     let s = args .head .now in
-    let o = c .before .before .search in
-    let g = c .before .before .before .gather-names in
+    let o = at-search .search in
+    let g = at-gather-names .gather-names in
     ⊎-elim
     (λ w. let z : ⊥ = omega (arith, w .left, c .if2 .taken) in absurd z)
     (λ w. lowest-next (namedBefore s) (args .n) (o .later) (c .if2 .taken) (o .inv .1) (an-earlier s (w .1 .earlier) (o .later) (w .1 .inv .1) (w .2 .taken)
     (pair-tested s (args .n) (g .result) (g .ensures) (w .1 .earlier) (o .later) _ (omega (arith, w .2 .taken)) (omega arith) (w .5 .ensures) ∙ w .6 .taken)))
-    (c .before .search-test .came)
+    (at-search-test .search-test .came)
 
 returns-2 : tie.Need-returns-2 Inv-loop μ-loop Inv-search μ-search
 returns-2 c =
-    let args = c .before .before .before .before .before .args in
+    let at-search = c .before .before in
+    let start = at-search .before .before .before in
+    let args = start .args in
     let s = args .head .now in
-    let o = c .before .before .search in
+    let o = at-search .search in
     let q : o .later ≡ args .n = omega arith in
     sym (lowest-nothing (namedBefore s) (args .n) (rw q at (o .inv .1)))
 
@@ -114,20 +109,20 @@ doubled-name-spec =
     μ-loop
     Inv-search
     μ-search
-    gather-names-requires
+    (λ c κs. search needs)
     search-holds
     loop-holds
-    mul-same-name
+    (λ c. search needs)
     element-copy-out-same-name
-    mul-same-name-2
+    (λ c. search needs)
     element-copy-out-same-name-2
     same-name-requires
-    add-earlier
-    loop-less
+    (λ c. search needs)
+    (λ c. search needs)
     loop-again
-    add-later
-    search-less
+    (λ c. search needs)
+    (λ c. search needs)
     search-again
-    add-result
+    (λ c. search needs)
     returns
     returns-2)

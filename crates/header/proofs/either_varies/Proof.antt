@@ -2,9 +2,6 @@ use borrow.Author.Needs.{needs}
 use Rattle.header.proofs.either_varies.Statement.{statement}
 use Rattle.header.proofs.either_varies.Tie as tie
 
-is-varying-requires : tie.Need-is-varying-requires
-is-varying-requires c κs = search needs
-
 returns : tie.Need-returns
 returns c = simp (c .if1 .taken)
 
@@ -12,4 +9,4 @@ returns-2 : tie.Need-returns-2
 returns-2 c = simp (← c .is-varying .ensures, c .before .if1 .left)
 
 pub either-varies-spec : {M : Type 1} → statement M
-either-varies-spec = tie.close (tie.spec is-varying-requires returns returns-2)
+either-varies-spec = tie.close (tie.spec (λ c κs. search needs) returns returns-2)

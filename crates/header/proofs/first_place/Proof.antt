@@ -6,47 +6,46 @@ use borrow.Author.Needs.{needs}
 use Rattle.header.proofs.first_place.Statement.{statement}
 use Rattle.header.proofs.first_place.Tie as tie
 
-judge-file-requires : tie.Need-judge-file-requires
-judge-file-requires c κs = search needs
-
-enum-known-facts : tie.Need-enum-known-facts
-enum-known-facts c = search needs
-
-sub-first-definition : tie.Need-sub-first-definition
-sub-first-definition c = search needs
-
-part-first-definition-start : tie.Need-part-first-definition-start
-part-first-definition-start c = search needs
-
 part-first-definition-end : tie.Need-part-first-definition-end
-part-first-definition-end c = let p = sound-passed (c .before .before .before .before .before .args .file .now) _ (sym (c .before .before .before .judge-file .ensures) ∙ c .before .facts .given .1) in omega (arith, p .fits)
+part-first-definition-end c =
+    let at-facts = c .before in
+    let at-judge-file = at-facts .before .before in
+    let start = at-judge-file .before .before in
+    let p = sound-passed (start .args .file .now) _ (sym (at-judge-file .judge-file .ensures) ∙ at-facts .facts .given .1) in omega (arith, p .fits)
 
 first-definition-requires : tie.Need-first-definition-requires
-first-definition-requires c κs = let p = sound-passed (c .before .before .before .before .before .before .args .file .now) _ (sym (c .before .before .before .before .judge-file .ensures) ∙ c .before .before .facts .given .1) in omega (arith, p .short)
-
-enum-told : tie.Need-enum-told
-enum-told c = search needs
+first-definition-requires c κs =
+    let at-facts = c .before .before in
+    let at-judge-file = at-facts .before .before in
+    let start = at-judge-file .before .before in
+    let p = sound-passed (start .args .file .now) _ (sym (at-judge-file .judge-file .ensures) ∙ at-facts .facts .given .1) in omega (arith, p .short)
 
 returns : tie.Need-returns
 returns c =
-    let args = c .before .before .before .before .before .before .before .args in
-    let p = sound-passed (args .file .now) _ (sym (c .before .before .before .before .before .judge-file .ensures) ∙ c .before .before .before .facts .given .1) in c .first-definition .ensures ∙ accepted-start (args .file .now) _ p
+    let at-facts = c .before .before .before in
+    let at-judge-file = at-facts .before .before in
+    let start = at-judge-file .before .before in
+    let args = start .args in
+    let p = sound-passed (args .file .now) _ (sym
+    (at-judge-file .judge-file .ensures) ∙ at-facts .facts .given .1) in c .first-definition .ensures ∙ accepted-start (args .file .now) _ p
 
 returns-2 : tie.Need-returns-2
 returns-2 c =
-    let args = c .before .before .before .before .args in
-    let q = refused-by (args .file .now) _ (sym (c .before .before .judge-file .ensures) ∙ c .enum-told .given .1) in refused-start (args .file .now) _ q
+    let at-judge-file = c .before .before in
+    let start = at-judge-file .before .before in
+    let args = start .args in
+    let q = refused-by (args .file .now) _ (sym (at-judge-file .judge-file .ensures) ∙ c .enum-told .given .1) in refused-start (args .file .now) _ q
 
 pub first-place-spec : {M : Type 1} → statement M
 first-place-spec =
     tie.close
     (tie.spec
-    judge-file-requires
-    enum-known-facts
-    sub-first-definition
-    part-first-definition-start
+    (λ c κs. search needs)
+    (λ c. search needs)
+    (λ c. search needs)
+    (λ c. search needs)
     part-first-definition-end
     first-definition-requires
-    enum-told
+    (λ c. search needs)
     returns
     returns-2)

@@ -20,35 +20,21 @@ Inv-loop head n names₀ at₀ k₀ names at k = (k ≤ n) × (at ≡ placeAfter
 abbrev μ-loop : tie.MeasureT-loop
 μ-loop head n names₀ at₀ k₀ names at k = n - k
 
-first-definition-requires : tie.Need-first-definition-requires Inv-loop μ-loop
-first-definition-requires c κs = search needs
-
 loop-holds : tie.Need-loop-holds Inv-loop μ-loop
 loop-holds c = (omega arith, at-first (c .before .before .args .head .now) _ (c .first-definition .ensures), refl)
 
-definition-at-requires : tie.Need-definition-at-requires Inv-loop μ-loop
-definition-at-requires c κs = search needs
-
-mul-names : tie.Need-mul-names Inv-loop μ-loop
-mul-names c = search needs
-
-array-set-from-names : tie.Need-array-set-from-names Inv-loop μ-loop
-array-set-from-names c = search needs
-
-add-k : tie.Need-add-k Inv-loop μ-loop
-add-k c = search needs
-
-loop-less : tie.Need-loop-less Inv-loop μ-loop
-loop-less c = search needs
-
 loop-again : tie.Need-loop-again Inv-loop μ-loop
 loop-again c =
-    let s = c .before .before .before .before .before .before .args .head .now in
-    let b = c .before .before .before .loop in
-    let d = c .before .definition-at in (
+    let at-definition-at = c .before in
+    let at-loop = at-definition-at .before .before in
+    let start = at-loop .before .before .before in
+    let s = start .args .head .now in
+    let b = at-loop .loop in
+    let d = at-definition-at .definition-at in (
       omega arith,
       at-next s (b .k) (b .at) (d .result) (b .inv .1) (d .ensures .0),
-      oneTo-next (λ j. column s j .name) (b .names) mostColumns (b .k) (span 0 0) (d .result .name) (omega arith) (b .inv .2) (ap (λ (x : Definition). x .name) (is-column s (b .k) (b .at) (d .result) (b .inv .1) (d .ensures .0))),
+      oneTo-next (λ j. column s j .name) (b .names) mostColumns (b .k) (span 0 0) (d .result .name) (omega arith) (b .inv .2) (ap (λ
+          (x : Definition). x .name) (is-column s (b .k) (b .at) (d .result) (b .inv .1) (d .ensures .0))),
     )
 
 returns : tie.Need-returns Inv-loop μ-loop
@@ -63,12 +49,12 @@ gather-names-spec =
     (tie.spec
     Inv-loop
     μ-loop
-    first-definition-requires
+    (λ c κs. search needs)
     loop-holds
-    definition-at-requires
-    mul-names
-    array-set-from-names
-    add-k
-    loop-less
+    (λ c κs. search needs)
+    (λ c. search needs)
+    (λ c. search needs)
+    (λ c. search needs)
+    (λ c. search needs)
     loop-again
     returns)

@@ -6,7 +6,11 @@ returns : tie.Need-returns
 returns c = simp (c .if2 .taken, eq-eqb _ _ (c .before .if1 .taken))
 
 returns-2 : tie.Need-returns-2
-returns-2 c = simp (eq-eqb _ _ (c .before .if3 .taken), c .before .before .before .if2 .left, eq-eqb _ _ (c .before .before .before .before .if1 .taken))
+returns-2 c =
+    let at-if3 = c .before in
+    let at-if2 = at-if3 .before .before in
+    let at-if1 = at-if2 .before in
+    simp (eq-eqb _ _ (at-if3 .if3 .taken), at-if2 .if2 .left, eq-eqb _ _ (at-if1 .if1 .taken))
 
 returns-3 : tie.Need-returns-3
 returns-3 c = simp (ne-eqb _ _ (c .if3 .left), c .before .before .if2 .left, eq-eqb _ _ (c .before .before .before .if1 .taken))

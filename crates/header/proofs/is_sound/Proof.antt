@@ -4,28 +4,22 @@ use Rattle.header.specs.Judge.{sound}
 use Rattle.header.proofs.is_sound.Statement.{statement}
 use Rattle.header.proofs.is_sound.Tie as tie
 
-of-requires : tie.Need-of-requires
-of-requires c κs = search needs
-
-enum-known-kind : tie.Need-enum-known-kind
-enum-known-kind c = search needs
-
-key-listed-requires : tie.Need-key-listed-requires
-key-listed-requires c κs = search needs
-
-count-right-requires : tie.Need-count-right-requires
-count-right-requires c κs = search needs
-
-enum-told : tie.Need-enum-told
-enum-told c = search needs
-
 returns : tie.Need-returns
 unfolding sound
-returns c = simp (← c .count-right .ensures, c .before .if1 .taken, ← c .before .before .key-listed .ensures, sym (c .before .before .before .before .before .before .of .ensures) ∙ c .before .before .before .before .kind .given .1)
+returns c =
+    let at-if1 = c .before in
+    let at-key-listed = at-if1 .before in
+    let at-kind = at-key-listed .before .before in
+    let at-of = at-kind .before .before in
+    simp (← c .count-right .ensures, at-if1 .if1 .taken, ← at-key-listed .key-listed .ensures, sym (at-of .of .ensures) ∙ at-kind .kind .given .1)
 
 returns-2 : tie.Need-returns-2
 unfolding sound
-returns-2 c = simp (c .if1 .left, ← c .before .key-listed .ensures, sym (c .before .before .before .before .before .of .ensures) ∙ c .before .before .before .kind .given .1)
+returns-2 c =
+    let at-key-listed = c .before in
+    let at-kind = at-key-listed .before .before in
+    let at-of = at-kind .before .before in
+    simp (c .if1 .left, ← at-key-listed .key-listed .ensures, sym (at-of .of .ensures) ∙ at-kind .kind .given .1)
 
 returns-3 : tie.Need-returns-3
 unfolding sound
@@ -35,11 +29,11 @@ pub is-sound-spec : {M : Type 1} → statement M
 is-sound-spec =
     tie.close
     (tie.spec
-    of-requires
-    enum-known-kind
-    key-listed-requires
-    count-right-requires
-    enum-told
+    (λ c κs. search needs)
+    (λ c. search needs)
+    (λ c κs. search needs)
+    (λ c κs. search needs)
+    (λ c. search needs)
     returns
     returns-2
     returns-3)

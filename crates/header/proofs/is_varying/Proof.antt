@@ -7,15 +7,9 @@ returns : tie.Need-returns
 unfolding varies
 returns c = simp (c .if1 .taken)
 
-kind-of-requires : tie.Need-kind-of-requires
-kind-of-requires c κs = search needs
-
-is-triplet-requires : tie.Need-is-triplet-requires
-is-triplet-requires c κs = search needs
-
 returns-2 : tie.Need-returns-2
 unfolding varies
 returns-2 c = simp (← c .is-triplet .ensures, ← c .before .kind-of .ensures, c .before .before .if1 .left)
 
 pub is-varying-spec : {M : Type 1} → statement M
-is-varying-spec = tie.close (tie.spec returns kind-of-requires is-triplet-requires returns-2)
+is-varying-spec = tie.close (tie.spec returns (λ c κs. search needs) (λ c κs. search needs) returns-2)

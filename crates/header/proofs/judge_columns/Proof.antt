@@ -5,44 +5,40 @@ use borrow.Author.Needs.{needs}
 use Rattle.header.proofs.judge_columns.Statement.{statement}
 use Rattle.header.proofs.judge_columns.Tie as tie
 
-judge-each-requires : tie.Need-judge-each-requires
-judge-each-requires c κs = search needs
-
 returns : tie.Need-returns
 returns c =
-    let args = c .before .before .before .before .args in
-    let judge-each = c .before .before .judge-each in
+    let at-judge-each = c .before .before in
+    let start = at-judge-each .before .before in
+    let args = start .args in
+    let judge-each = at-judge-each .judge-each in
     columns-each (args .head .now) (args .n) (judge-each .result) (judge-each .ensures) (c .if1 .taken)
-
-add-refuse : tie.Need-add-refuse
-add-refuse c = search needs
-
-refuse-requires : tie.Need-refuse-requires
-refuse-requires c κs = search needs
 
 returns-2 : tie.Need-returns-2
 returns-2 c =
-    let args = c .before .before .before .before .before .before .args in
-    let judge-each = c .before .before .before .before .judge-each in
-    c .refuse .ensures ∙ columns-many (args .head .now) (args .n) (judge-each .result) (judge-each .ensures) (c .before .before .if1 .left) (omega arith)
-
-judge-names-requires : tie.Need-judge-names-requires
-judge-names-requires c κs = search needs
+    let at-if1 = c .before .before in
+    let at-judge-each = at-if1 .before .before in
+    let start = at-judge-each .before .before in
+    let args = start .args in
+    let judge-each = at-judge-each .judge-each in
+    c .refuse .ensures ∙ columns-many (args .head .now) (args .n) (judge-each .result) (judge-each .ensures) (at-if1 .if1 .left) (omega arith)
 
 returns-3 : tie.Need-returns-3
 returns-3 c =
-    let args = c .before .before .before .before .before .before .args in
-    let judge-each = c .before .before .before .before .judge-each in
-    c .judge-names .ensures ∙ columns-named (args .head .now) (args .n) (judge-each .result) (judge-each .ensures) (c .before .before .if1 .left) (omega arith)
+    let at-if1 = c .before .before in
+    let at-judge-each = at-if1 .before .before in
+    let start = at-judge-each .before .before in
+    let args = start .args in
+    let judge-each = at-judge-each .judge-each in
+    c .judge-names .ensures ∙ columns-named (args .head .now) (args .n) (judge-each .result) (judge-each .ensures) (at-if1 .if1 .left) (omega arith)
 
 pub judge-columns-spec : {M : Type 1} → statement M
 judge-columns-spec =
     tie.close
     (tie.spec
-    judge-each-requires
+    (λ c κs. search needs)
     returns
-    add-refuse
-    refuse-requires
+    (λ c. search needs)
+    (λ c κs. search needs)
     returns-2
-    judge-names-requires
+    (λ c κs. search needs)
     returns-3)

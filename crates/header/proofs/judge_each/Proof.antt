@@ -20,59 +20,47 @@ Inv-loop head n at₀ k₀ at k = (k ≤ n) × (at ≡ placeAfter head k) × Non
 abbrev μ-loop : tie.MeasureT-loop
 μ-loop head n at₀ k₀ at k = n - k
 
-first-definition-requires : tie.Need-first-definition-requires Inv-loop μ-loop
-first-definition-requires c κs = search needs
-
 loop-holds : tie.Need-loop-holds Inv-loop μ-loop
 loop-holds c =
     let args = c .before .before .args in
     (omega arith, at-first (args .head .now) _ (c .first-definition .ensures), none-start (refuses (columnRefusal (args .head .now))))
 
-definition-at-requires : tie.Need-definition-at-requires Inv-loop μ-loop
-definition-at-requires c κs = search needs
-
-is-sound-requires : tie.Need-is-sound-requires Inv-loop μ-loop
-is-sound-requires c κs = search needs
-
-add-k : tie.Need-add-k Inv-loop μ-loop
-add-k c = search needs
-
-loop-less : tie.Need-loop-less Inv-loop μ-loop
-loop-less c = search needs
-
 loop-again : tie.Need-loop-again Inv-loop μ-loop
 loop-again c =
-    let s = c .before .before .before .before .before .before .before .args .head .now in
-    let b = c .before .before .before .before .loop in
-    let d = c .before .before .definition-at in (
+    let at-is-sound = c .before in
+    let at-definition-at = at-is-sound .before in
+    let at-loop = at-definition-at .before .before in
+    let start = at-loop .before .before .before in
+    let s = start .args .head .now in
+    let b = at-loop .loop in
+    let d = at-definition-at .definition-at in (
       omega arith,
       at-next s (b .k) (b .at) (d .result) (b .inv .1) (d .ensures .0),
-      on-next (columnRefusal s) (b .k) fine (b .inv .2) (column-fine s (b .k) (b .at) (d .result) (b .inv .1) (d .ensures .0) (sym (c .if1 .taken) ∙ c .before .is-sound .ensures)) refl,
+      on-next (columnRefusal s) (b .k) fine (b .inv .2) (column-fine s (b .k) (b .at) (d .result) (b .inv .1) (d .ensures .0) (sym
+          (c .if1 .taken) ∙ at-is-sound .is-sound .ensures)) refl,
     )
-
-add-refuse : tie.Need-add-refuse Inv-loop μ-loop
-add-refuse c = search needs
-
-refuse-requires : tie.Need-refuse-requires Inv-loop μ-loop
-refuse-requires c κs = search needs
 
 returns : tie.Need-returns Inv-loop μ-loop
 returns c =
-    let args = c .before .before .before .before .before .before .before .before .args in
+    let at-if1 = c .before in
+    let at-is-sound = at-if1 .before in
+    let at-definition-at = at-is-sound .before in
+    let at-loop = at-definition-at .before .before in
+    let start = at-loop .before .before .before in
+    let args = start .args in
     let s = args .head .now in
-    let b = c .before .before .before .before .before .loop in
-    let d = c .before .before .before .definition-at in
+    let b = at-loop .loop in
+    let d = at-definition-at .definition-at in
     found (columnRefusal s) (args .n) (b .k) (c .refuse .result) (omega arith) (b .inv .2)
-    (c .refuse .ensures ∙ column-refused s (b .k) (b .at) (d .result) (b .inv .1) (d .ensures .0) (sym (c .before .if1 .left) ∙ c .before .before .is-sound .ensures))
+    (c .refuse .ensures ∙ column-refused s (b .k) (b .at) (d .result) (b .inv .1) (d .ensures .0) (sym (at-if1 .if1 .left) ∙ at-is-sound .is-sound .ensures))
     (λ z. omega (arith, z, ap (λ (r : Refusal). r .number) (c .refuse .ensures)))
-
-no-refusal-requires : tie.Need-no-refusal-requires Inv-loop μ-loop
-no-refusal-requires c κs = search needs
 
 returns-2 : tie.Need-returns-2 Inv-loop μ-loop
 returns-2 c =
-    let args = c .before .before .before .before .before .args in
-    let loop = c .before .before .loop in
+    let at-loop = c .before .before in
+    let start = at-loop .before .before .before in
+    let args = start .args in
+    let loop = at-loop .loop in
     c .no-refusal .ensures ∙ all-fine (columnRefusal (args .head .now)) (args .n) (loop .k) (omega arith) (omega arith) (loop .inv .2)
 
 pub judge-each-spec : {M : Type 1} → statement M
@@ -81,15 +69,15 @@ judge-each-spec =
     (tie.spec
     Inv-loop
     μ-loop
-    first-definition-requires
+    (λ c κs. search needs)
     loop-holds
-    definition-at-requires
-    is-sound-requires
-    add-k
-    loop-less
+    (λ c κs. search needs)
+    (λ c κs. search needs)
+    (λ c. search needs)
+    (λ c. search needs)
     loop-again
-    add-refuse
-    refuse-requires
+    (λ c. search needs)
+    (λ c κs. search needs)
     returns
-    no-refusal-requires
+    (λ c κs. search needs)
     returns-2)

@@ -5,47 +5,36 @@ use borrow.Author.Needs.{needs}
 use Rattle.header.proofs.judge_file.Statement.{statement}
 use Rattle.header.proofs.judge_file.Tie as tie
 
-refuse-requires : tie.Need-refuse-requires
-refuse-requires c κs = search needs
-
 returns : tie.Need-returns
 returns c = ap Refused (c .refuse .ensures) ∙ file-short (c .before .before .before .args .file .now) (c .before .if1 .taken)
 
-shared-slice-read-order-of : tie.Need-shared-slice-read-order-of
-shared-slice-read-order-of c = search needs
-
-order-of-requires : tie.Need-order-of-requires
-order-of-requires c κs = search needs
-
-enum-known-order : tie.Need-enum-known-order
-enum-known-order c = search needs
-
 judge-sized-requires : tie.Need-judge-sized-requires
-judge-sized-requires c κs = (c .before .before .before .before .before .if1 .left, sym (c .before .before .before .order-of .ensures) ∙ c .before .order .given .1)
-
-enum-told : tie.Need-enum-told
-enum-told c = search needs
-
-refuse-requires-2 : tie.Need-refuse-requires-2
-refuse-requires-2 c κs = search needs
-
-returns-2 : tie.Need-returns-2
-returns-2 c = search needs
+judge-sized-requires c κs =
+    let at-order = c .before in
+    let at-order-of = at-order .before .before in
+    let at-if1 = at-order-of .before .before in
+    (at-if1 .if1 .left, sym (at-order-of .order-of .ensures) ∙ at-order .order .given .1)
 
 returns-3 : tie.Need-returns-3
-returns-3 c = ap Refused (c .refuse2 .ensures) ∙ file-unlisted (c .before .before .before .before .before .before .before .args .file .now) (c .before .before .before .before .before .if1 .left) (sym (c .before .before .before .order-of .ensures) ∙ c .before .enum-told .given .1)
+returns-3 c =
+    let at-enum-told = c .before in
+    let at-order-of = at-enum-told .before .before in
+    let at-if1 = at-order-of .before .before in
+    let start = at-if1 .before .before in
+    ap Refused (c .refuse2 .ensures) ∙ file-unlisted (start .args .file .now) (at-if1 .if1 .left) (sym
+    (at-order-of .order-of .ensures) ∙ at-enum-told .enum-told .given .1)
 
 pub judge-file-spec : {M : Type 1} → statement M
 judge-file-spec =
     tie.close
     (tie.spec
-    refuse-requires
+    (λ c κs. search needs)
     returns
-    shared-slice-read-order-of
-    order-of-requires
-    enum-known-order
+    (λ c. search needs)
+    (λ c κs. search needs)
+    (λ c. search needs)
     judge-sized-requires
-    enum-told
-    refuse-requires-2
-    returns-2
+    (λ c. search needs)
+    (λ c κs. search needs)
+    (λ c. search needs)
     returns-3)

@@ -4,48 +4,48 @@ use borrow.Author.Needs.{needs}
 use Rattle.header.proofs.judge_names.Statement.{statement}
 use Rattle.header.proofs.judge_names.Tie as tie
 
-doubled-name-requires : tie.Need-doubled-name-requires
-doubled-name-requires c κs = search needs
-
-refuse-requires : tie.Need-refuse-requires
-refuse-requires c κs = search needs
-
 returns : tie.Need-returns
 returns c =
-    let args = c .before .before .before .before .args in
-    let doubled-name = c .before .before .doubled-name in
-    c .refuse .ensures ∙ names-doubled (args .head .now) (args .n) (doubled-name .result) (doubled-name .ensures) (c .before .if1 .taken)
-
-id-wrong-requires : tie.Need-id-wrong-requires
-id-wrong-requires c κs = search needs
-
-refuse-requires-2 : tie.Need-refuse-requires-2
-refuse-requires-2 c κs = search needs
+    let at-if1 = c .before in
+    let at-doubled-name = at-if1 .before in
+    let start = at-doubled-name .before .before in
+    let args = start .args in
+    let doubled-name = at-doubled-name .doubled-name in
+    c .refuse .ensures ∙ names-doubled (args .head .now) (args .n) (doubled-name .result) (doubled-name .ensures) (at-if1 .if1 .taken)
 
 returns-2 : tie.Need-returns-2
 returns-2 c =
-    let args = c .before .before .before .before .before .before .args in
-    let doubled-name = c .before .before .before .before .doubled-name in
-    c .refuse2 .ensures ∙ names-id (args .head .now) (args .n) (doubled-name .result) (doubled-name .ensures) (c .before .before .before .if1 .left) (sym (c .before .before .id-wrong .ensures) ∙ c .before .if2 .taken)
-
-no-refusal-requires : tie.Need-no-refusal-requires
-no-refusal-requires c κs = search needs
+    let at-if2 = c .before in
+    let at-id-wrong = at-if2 .before in
+    let at-if1 = at-id-wrong .before in
+    let at-doubled-name = at-if1 .before in
+    let start = at-doubled-name .before .before in
+    let args = start .args in
+    let doubled-name = at-doubled-name .doubled-name in
+    c .refuse2 .ensures ∙ names-id (args .head .now) (args .n) (doubled-name .result) (doubled-name .ensures) (at-if1 .if1 .left) (sym
+    (at-id-wrong .id-wrong .ensures) ∙ at-if2 .if2 .taken)
 
 returns-3 : tie.Need-returns-3
 returns-3 c =
-    let args = c .before .before .before .before .before .before .args in
-    let doubled-name = c .before .before .before .before .doubled-name in
-    c .no-refusal .ensures ∙ names-fine (args .head .now) (args .n) (doubled-name .result) (doubled-name .ensures) (c .before .before .before .if1 .left) (sym (c .before .before .id-wrong .ensures) ∙ c .before .if2 .left)
+    let at-if2 = c .before in
+    let at-id-wrong = at-if2 .before in
+    let at-if1 = at-id-wrong .before in
+    let at-doubled-name = at-if1 .before in
+    let start = at-doubled-name .before .before in
+    let args = start .args in
+    let doubled-name = at-doubled-name .doubled-name in
+    c .no-refusal .ensures ∙ names-fine (args .head .now) (args .n) (doubled-name .result) (doubled-name .ensures) (at-if1 .if1 .left) (sym
+    (at-id-wrong .id-wrong .ensures) ∙ at-if2 .if2 .left)
 
 pub judge-names-spec : {M : Type 1} → statement M
 judge-names-spec =
     tie.close
     (tie.spec
-    doubled-name-requires
-    refuse-requires
+    (λ c κs. search needs)
+    (λ c κs. search needs)
     returns
-    id-wrong-requires
-    refuse-requires-2
+    (λ c κs. search needs)
+    (λ c κs. search needs)
     returns-2
-    no-refusal-requires
+    (λ c κs. search needs)
     returns-3)

@@ -8,68 +8,59 @@ use borrow.Author.Needs.{needs}
 use Rattle.header.proofs.judge_text.Statement.{statement}
 use Rattle.header.proofs.judge_text.Tie as tie
 
-sub-scan-text : tie.Need-sub-scan-text
-sub-scan-text c = search needs
-
-part-scan-text-start : tie.Need-part-scan-text-start
-part-scan-text-start c = search needs
-
-part-scan-text-end : tie.Need-part-scan-text-end
-part-scan-text-end c = search needs
-
-scan-text-requires : tie.Need-scan-text-requires
-scan-text-requires c κs = search needs
-
-enum-known-n : tie.Need-enum-known-n
-enum-known-n c = search needs
-
-judge-columns-requires : tie.Need-judge-columns-requires
-judge-columns-requires c κs = search needs
-
-enum-known-i : tie.Need-enum-known-i
-enum-known-i c = search needs
-
 add-refuse : tie.Need-add-refuse
 add-refuse c =
-    let s = c .before .before .before .before .before .before .args .head .now in
-    omega (arith, bad-within (drop 4 s) _ (scanned s _ _ (c .before .before .before .scan-text .ensures) (c .before .i .given .1)), length-drop 4 s)
-
-refuse-requires : tie.Need-refuse-requires
-refuse-requires c κs = search needs
+    let at-i = c .before in
+    let at-scan-text = at-i .before .before in
+    let start = at-scan-text .before .before .before in
+    let s = start .args .head .now in
+    omega (arith, bad-within (drop 4 s) _ (scanned s _ _ (at-scan-text .scan-text .ensures) (at-i .i .given .1)), length-drop 4 s)
 
 returns : tie.Need-returns
 returns c =
-    let args = c .before .before .before .before .before .before .before .before .before .args in
-    let judge-columns = c .before .before .judge-columns in
+    let at-judge-columns = c .before .before in
+    let at-n = at-judge-columns .before .before in
+    let at-scan-text = at-n .before .before in
+    let start = at-scan-text .before .before .before in
+    let args = start .args in
+    let judge-columns = at-judge-columns .judge-columns in
     let s = args .head .now in
-    text-sound (args .order) s _ _ (judge-columns .result) (scanned s _ _ (c .before .before .before .before .before .before .scan-text .ensures) (c .before .before .before .before .n .given .1)) (judge-columns .ensures) (c .if1 .taken)
+    text-sound (args .order) s _ _ (judge-columns .result) (scanned s _ _ (at-scan-text .scan-text .ensures) (at-n .n .given .1)) (judge-columns .ensures) (c .if1 .taken)
 
 returns-2 : tie.Need-returns-2
 returns-2 c =
-    let args = c .before .before .before .before .before .before .before .before .before .args in
-    let judge-columns = c .before .before .judge-columns in
+    let at-judge-columns = c .before .before in
+    let at-n = at-judge-columns .before .before in
+    let at-scan-text = at-n .before .before in
+    let start = at-scan-text .before .before .before in
+    let args = start .args in
+    let judge-columns = at-judge-columns .judge-columns in
     let s = args .head .now in
-    text-refused (args .order) s _ _ (judge-columns .result) (scanned s _ _ (c .before .before .before .before .before .before .scan-text .ensures) (c .before .before .before .before .n .given .1)) (judge-columns .ensures) (c .if1 .left)
+    text-refused (args .order) s _ _ (judge-columns .result) (scanned s _ _ (at-scan-text .scan-text .ensures) (at-n .n .given .1))
+    (judge-columns .ensures) (c .if1 .left)
 
 returns-3 : tie.Need-returns-3
 returns-3 c =
-    let args = c .before .before .before .before .before .before .before .args in
+    let at-i = c .before .before in
+    let at-scan-text = at-i .before .before in
+    let start = at-scan-text .before .before .before in
+    let args = start .args in
     let s = args .head .now in
-    ap Refused (c .refuse .ensures) ∙ text-bad (args .order) s _ _ (scanned s _ _ (c .before .before .before .before .scan-text .ensures) (c .before .before .i .given .1))
+    ap Refused (c .refuse .ensures) ∙ text-bad (args .order) s _ _ (scanned s _ _ (at-scan-text .scan-text .ensures) (at-i .i .given .1))
 
 pub judge-text-spec : {M : Type 1} → statement M
 judge-text-spec =
     tie.close
     (tie.spec
-    sub-scan-text
-    part-scan-text-start
-    part-scan-text-end
-    scan-text-requires
-    enum-known-n
-    judge-columns-requires
-    enum-known-i
+    (λ c. search needs)
+    (λ c. search needs)
+    (λ c. search needs)
+    (λ c κs. search needs)
+    (λ c. search needs)
+    (λ c κs. search needs)
+    (λ c. search needs)
     add-refuse
-    refuse-requires
+    (λ c κs. search needs)
     returns
     returns-2
     returns-3)

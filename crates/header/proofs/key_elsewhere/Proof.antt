@@ -18,46 +18,38 @@ Inv-loop head n id at₀ k₀ at k = (k ≤ n) × (at ≡ placeAfter head k) × 
 abbrev μ-loop : tie.MeasureT-loop
 μ-loop head n id at₀ k₀ at k = n - k
 
-first-definition-requires : tie.Need-first-definition-requires Inv-loop μ-loop
-first-definition-requires c κs = search needs
-
 loop-holds : tie.Need-loop-holds Inv-loop μ-loop
 loop-holds c =
     let args = c .before .before .args in
     (omega arith, at-first (args .head .now) _ (c .first-definition .ensures), none-start (otherKeyP (args .head .now) (args .id)))
 
-definition-at-requires : tie.Need-definition-at-requires Inv-loop μ-loop
-definition-at-requires c κs = search needs
-
-add-other-key : tie.Need-add-other-key Inv-loop μ-loop
-add-other-key c = search needs
-
-other-key-requires : tie.Need-other-key-requires Inv-loop μ-loop
-other-key-requires c κs = search needs
-
 returns : tie.Need-returns Inv-loop μ-loop
 returns c =
-    let args = c .before .before .before .before .before .before .before .args in
+    let at-other-key = c .before in
+    let at-definition-at = at-other-key .before in
+    let at-loop = at-definition-at .before .before in
+    let start = at-loop .before .before .before in
+    let args = start .args in
     let s = args .head .now in
-    let b = c .before .before .before .before .loop in
-    let d = c .before .before .definition-at in
-    rw (lowest-found (otherKeyP s (args .id)) (args .n) (b .k) (omega arith) (b .inv .2) (key-tested s (b .k) (b .at) (d .result) (b .inv .1) (d .ensures .0) (args .id) _ (c .before .other-key .ensures) ∙ c .if1 .taken)) (sym (lt-ltb 0 (suc (b .k)) (omega arith)))
-
-add-k : tie.Need-add-k Inv-loop μ-loop
-add-k c = search needs
-
-loop-less : tie.Need-loop-less Inv-loop μ-loop
-loop-less c = search needs
+    let b = at-loop .loop in
+    let d = at-definition-at .definition-at in
+    rw (lowest-found (otherKeyP s (args .id)) (args .n) (b .k) (omega arith) (b .inv .2) (key-tested s (b .k) (b .at) (d .result) (b .inv .1)
+    (d .ensures .0) (args .id) _ (at-other-key .other-key .ensures) ∙ c .if1 .taken)) (sym (lt-ltb 0 (suc (b .k)) (omega arith)))
 
 loop-again : tie.Need-loop-again Inv-loop μ-loop
 loop-again c =
-    let args = c .before .before .before .before .before .before .before .args in
+    let at-other-key = c .before in
+    let at-definition-at = at-other-key .before in
+    let at-loop = at-definition-at .before .before in
+    let start = at-loop .before .before .before in
+    let args = start .args in
     let s = args .head .now in
-    let b = c .before .before .before .before .loop in
-    let d = c .before .before .definition-at in (
+    let b = at-loop .loop in
+    let d = at-definition-at .definition-at in (
       omega arith,
       at-next s (b .k) (b .at) (d .result) (b .inv .1) (d .ensures .0),
-      none-next (otherKeyP s (args .id)) (b .k) (b .inv .2) (key-tested s (b .k) (b .at) (d .result) (b .inv .1) (d .ensures .0) (args .id) _ (c .before .other-key .ensures) ∙ c .if1 .left),
+      none-next (otherKeyP s (args .id)) (b .k) (b .inv .2) (key-tested s (b .k) (b .at) (d .result) (b .inv .1) (d .ensures .0) (args .id) _
+          (at-other-key .other-key .ensures) ∙ c .if1 .left),
     )
 
 returns-2 : tie.Need-returns-2 Inv-loop μ-loop
@@ -74,13 +66,13 @@ key-elsewhere-spec =
     (tie.spec
     Inv-loop
     μ-loop
-    first-definition-requires
+    (λ c κs. search needs)
     loop-holds
-    definition-at-requires
-    add-other-key
-    other-key-requires
+    (λ c κs. search needs)
+    (λ c. search needs)
+    (λ c κs. search needs)
     returns
-    add-k
-    loop-less
+    (λ c. search needs)
+    (λ c. search needs)
     loop-again
     returns-2)

@@ -3,15 +3,9 @@ use Rattle.header.specs.Serving.Stages.{layoutAt}
 use Rattle.header.proofs.lay_column.Statement.{statement}
 use Rattle.header.proofs.lay_column.Tie as tie
 
-kind-of-requires : tie.Need-kind-of-requires
-kind-of-requires c κs = search needs
-
-size-of-requires : tie.Need-size-of-requires
-size-of-requires c κs = search needs
-
 returns : tie.Need-returns
 unfolding layoutAt
 returns c = (simp (← c .size-of .ensures .0, ← c .before .kind-of .ensures), search needs)
 
 pub lay-column-spec : {M : Type 1} → statement M
-lay-column-spec = tie.close (tie.spec kind-of-requires size-of-requires returns)
+lay-column-spec = tie.close (tie.spec (λ c κs. search needs) (λ c κs. search needs) returns)

@@ -4,9 +4,6 @@ use Rattle.header.specs.Names.{lower}
 use Rattle.header.proofs.lower_of.Statement.{statement}
 use Rattle.header.proofs.lower_of.Tie as tie
 
-add-result : tie.Need-add-result
-add-result c = search needs
-
 returns : tie.Need-returns
 unfolding lower
 returns c = simp (le-leb _ _ (c .if2 .taken), le-leb _ _ (c .before .if1 .taken))
@@ -20,4 +17,4 @@ unfolding lower
 returns-3 c = simp (lt-leb _ _ (c .if1 .left))
 
 pub lower-of-spec : {M : Type 1} → statement M
-lower-of-spec = tie.close (tie.spec add-result returns returns-2 returns-3)
+lower-of-spec = tie.close (tie.spec (λ c. search needs) returns returns-2 returns-3)

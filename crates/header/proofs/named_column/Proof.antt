@@ -17,54 +17,55 @@ Inv-loop head n name at₀ k₀ at k = (k ≤ n) × (at ≡ placeAfter head k) �
 abbrev μ-loop : tie.MeasureT-loop
 μ-loop head n name at₀ k₀ at k = n - k
 
-first-definition-requires : tie.Need-first-definition-requires Inv-loop μ-loop
-first-definition-requires c κs = search needs
-
 loop-holds : tie.Need-loop-holds Inv-loop μ-loop
 loop-holds c =
     let args = c .before .before .before .args in
     (omega arith, at-first (args .head .now) _ (c .first-definition .ensures), none-start (isNamed (args .head .now) (args .name .now)))
 
-definition-at-requires : tie.Need-definition-at-requires Inv-loop μ-loop
-definition-at-requires c κs = search needs
-
 has-name-requires : tie.Need-has-name-requires Inv-loop μ-loop
-has-name-requires c κs = rw (c .before .definition-at .ensures .0) (name-within (c .before .before .before .before .before .before .before .args .head .now) (c .before .before .before .loop .at))
-
-add-result : tie.Need-add-result Inv-loop μ-loop
-add-result c = search needs
+has-name-requires c κs =
+    let at-definition-at = c .before in
+    let at-loop = at-definition-at .before .before in
+    let start = at-loop .before .before .before .before in
+    rw (at-definition-at .definition-at .ensures .0) (name-within (start .args .head .now) (at-loop .loop .at))
 
 returns : tie.Need-returns Inv-loop μ-loop
 unfolding columnNamed
 returns c =
-    let args = c .before .before .before .before .before .before .before .before .before .args in
+    let at-has-name = c .before in
+    let at-definition-at = at-has-name .before .before in
+    let at-loop = at-definition-at .before .before in
+    let start = at-loop .before .before .before .before in
+    let args = start .args in
     let s = args .head .now in
-    let b = c .before .before .before .before .before .loop in
-    let d = c .before .before .before .definition-at in
-    lowest-next (isNamed s (args .name .now)) (args .n) (b .k) (omega arith) (b .inv .2) (name-tested s (b .k) (b .at) (d .result) (b .inv .1) (d .ensures .0) (args .name .now) _ (c .before .has-name .ensures) ∙ c .if1 .taken)
-
-add-k : tie.Need-add-k Inv-loop μ-loop
-add-k c = search needs
-
-loop-less : tie.Need-loop-less Inv-loop μ-loop
-loop-less c = search needs
+    let b = at-loop .loop in
+    let d = at-definition-at .definition-at in
+    lowest-next (isNamed s (args .name .now)) (args .n) (b .k) (omega arith) (b .inv .2) (name-tested s (b .k) (b .at) (d .result) (b .inv .1)
+    (d .ensures .0) (args .name .now) _ (at-has-name .has-name .ensures) ∙ c .if1 .taken)
 
 loop-again : tie.Need-loop-again Inv-loop μ-loop
 loop-again c =
-    let args = c .before .before .before .before .before .before .before .before .before .args in
+    let at-has-name = c .before in
+    let at-definition-at = at-has-name .before .before in
+    let at-loop = at-definition-at .before .before in
+    let start = at-loop .before .before .before .before in
+    let args = start .args in
     let s = args .head .now in
-    let b = c .before .before .before .before .before .loop in
-    let d = c .before .before .before .definition-at in (
+    let b = at-loop .loop in
+    let d = at-definition-at .definition-at in (
       omega arith,
       at-next s (b .k) (b .at) (d .result) (b .inv .1) (d .ensures .0),
-      none-next (isNamed s (args .name .now)) (b .k) (b .inv .2) (name-tested s (b .k) (b .at) (d .result) (b .inv .1) (d .ensures .0) (args .name .now) _ (c .before .has-name .ensures) ∙ c .if1 .left),
+      none-next (isNamed s (args .name .now)) (b .k) (b .inv .2) (name-tested s (b .k) (b .at) (d .result) (b .inv .1) (d .ensures .0)
+          (args .name .now) _ (at-has-name .has-name .ensures) ∙ c .if1 .left),
     )
 
 returns-2 : tie.Need-returns-2 Inv-loop μ-loop
 unfolding columnNamed
 returns-2 c =
-    let args = c .before .before .before .before .before .args in
-    let loop = c .before .loop in
+    let at-loop = c .before in
+    let start = at-loop .before .before .before .before in
+    let args = start .args in
+    let loop = at-loop .loop in
     let p = isNamed (args .head .now) (args .name .now) in
     let q : loop .k ≡ args .n = omega arith in
     sym (lowest-nothing p (args .n) (rw q at (loop .inv .2)))
@@ -75,13 +76,13 @@ named-column-spec =
     (tie.spec
     Inv-loop
     μ-loop
-    first-definition-requires
+    (λ c κs. search needs)
     loop-holds
-    definition-at-requires
+    (λ c κs. search needs)
     has-name-requires
-    add-result
+    (λ c. search needs)
     returns
-    add-k
-    loop-less
+    (λ c. search needs)
+    (λ c. search needs)
     loop-again
     returns-2)

@@ -18,31 +18,21 @@ abbrev μ-loop : tie.MeasureT-loop
 loop-holds : tie.Need-loop-holds Inv-loop μ-loop
 loop-holds c = (omega arith, refl)
 
-mul-value : tie.Need-mul-value Inv-loop μ-loop
-mul-value c = search needs
-
-shared-slice-read-digit-of : tie.Need-shared-slice-read-digit-of Inv-loop μ-loop
-shared-slice-read-digit-of c = search needs
-
-digit-of-requires : tie.Need-digit-of-requires Inv-loop μ-loop
-digit-of-requires c κs = search needs
-
-add-value : tie.Need-add-value Inv-loop μ-loop
-add-value c = search needs
-
-add-i : tie.Need-add-i Inv-loop μ-loop
-add-i c = search needs
-
-loop-less : tie.Need-loop-less Inv-loop μ-loop
-loop-less c = search needs
-
 loop-again : tie.Need-loop-again Inv-loop μ-loop
 loop-again c =
-    let args = c .before .before .before .before .before .args in
+    let at-loop = c .before .before .before in
+    let at-shared-slice-known = at-loop .before in
+    let start = at-shared-slice-known .before in
+    let args = start .args in
     let s = args .head .now in
-    let b = c .before .before .before .loop in
-    let q = rw (← c .digit-of .ensures .0) at (sym (decimal-next s (args .p) (args .e) (b .i) (b .value) (omega arith) (omega arith)) ∙ b .inv .1) in
-    (decimal-bound s (args .p) (args .e) (b .i + 1) (b .value * 10 + c .digit-of .result) (λ k. omega (arith, c .before .before .before .before .shared-slice-known .given k)) (omega arith) q, q)
+    let b = at-loop .loop in
+    let q = rw (← c .digit-of .ensures .0) at (sym (decimal-next s (args .p) (args .e) (b .i) (b .value) (omega arith) (omega arith)) ∙ b .inv .1) in (
+      decimal-bound s (args .p) (args .e) (b .i + 1) (b .value * 10 + c .digit-of .result) (λ k. omega (
+        arith,
+        at-shared-slice-known .shared-slice-known .given k,
+      )) (omega arith) q,
+      q,
+    )
 
 returns : tie.Need-returns Inv-loop μ-loop
 returns c =
@@ -57,11 +47,11 @@ number-from-spec =
     Inv-loop
     μ-loop
     loop-holds
-    mul-value
-    shared-slice-read-digit-of
-    digit-of-requires
-    add-value
-    add-i
-    loop-less
+    (λ c. search needs)
+    (λ c. search needs)
+    (λ c κs. search needs)
+    (λ c. search needs)
+    (λ c. search needs)
+    (λ c. search needs)
     loop-again
     returns)

@@ -13,26 +13,16 @@ Inv-loop head k at₀ i₀ at i = (i ≤ k) × (at ≡ placeAfter head i)
 abbrev μ-loop : tie.MeasureT-loop
 μ-loop head k at₀ i₀ at i = k - i
 
-first-definition-requires : tie.Need-first-definition-requires Inv-loop μ-loop
-first-definition-requires c κs = search needs
-
 loop-holds : tie.Need-loop-holds Inv-loop μ-loop
 loop-holds c = (omega arith, at-first (c .before .before .args .head .now) _ (c .first-definition .ensures))
 
-definition-at-requires : tie.Need-definition-at-requires Inv-loop μ-loop
-definition-at-requires c κs = search needs
-
-add-i : tie.Need-add-i Inv-loop μ-loop
-add-i c = search needs
-
-loop-less : tie.Need-loop-less Inv-loop μ-loop
-loop-less c = search needs
-
 loop-again : tie.Need-loop-again Inv-loop μ-loop
 loop-again c =
-    let loop = c .before .before .loop in
+    let at-loop = c .before .before in
+    let start = at-loop .before .before .before in
+    let loop = at-loop .loop in
     let definition-at = c .definition-at in
-    (omega arith, at-next (c .before .before .before .before .before .args .head .now) (loop .i) (loop .at) (definition-at .result) (loop .inv .1) (definition-at .ensures .0))
+    (omega arith, at-next (start .args .head .now) (loop .i) (loop .at) (definition-at .result) (loop .inv .1) (definition-at .ensures .0))
 
 returns : tie.Need-returns Inv-loop μ-loop
 returns c =
@@ -46,10 +36,10 @@ place-after-spec =
     (tie.spec
     Inv-loop
     μ-loop
-    first-definition-requires
+    (λ c κs. search needs)
     loop-holds
-    definition-at-requires
-    add-i
-    loop-less
+    (λ c κs. search needs)
+    (λ c. search needs)
+    (λ c. search needs)
     loop-again
     returns)

@@ -22,40 +22,36 @@ returns c =
 loop-holds : tie.Need-loop-holds Inv-loop μ-loop
 loop-holds c = (c .if1 .left, refl)
 
-shared-slice-read-lower-of : tie.Need-shared-slice-read-lower-of Inv-loop μ-loop
-shared-slice-read-lower-of c = search needs
-
-lower-of-requires : tie.Need-lower-of-requires Inv-loop μ-loop
-lower-of-requires c κs = search needs
-
-shared-slice-read-lower-of-2 : tie.Need-shared-slice-read-lower-of-2 Inv-loop μ-loop
-shared-slice-read-lower-of-2 c = search needs
-
-lower-of-requires-2 : tie.Need-lower-of-requires-2 Inv-loop μ-loop
-lower-of-requires-2 c κs = search needs
-
 returns-2 : tie.Need-returns-2 Inv-loop μ-loop
 returns-2 c =
-    let args = c .before .before .before .before .before .before .before .before .before .before .args in
-    let loop = c .before .before .before .before .before .before .loop in
-    same-stop (args .a .now) (args .b .now) (loop .i) (omega arith) (loop .inv .0) (λ e. c .if2 .taken (c .before .before .before .lower-of .ensures ∙ e ∙ sym (c .before .lower-of2 .ensures))) ∙ loop .inv .1
-
-add-i : tie.Need-add-i Inv-loop μ-loop
-add-i c = search needs
-
-loop-less : tie.Need-loop-less Inv-loop μ-loop
-loop-less c = search needs
+    let at-lower-of2 = c .before in
+    let at-lower-of = at-lower-of2 .before .before in
+    let at-loop = at-lower-of .before .before .before in
+    let start = at-loop .before .before .before .before in
+    let args = start .args in
+    let loop = at-loop .loop in
+    same-stop (args .a .now) (args .b .now) (loop .i) (omega arith) (loop .inv .0) (λ e. c .if2 .taken (at-lower-of .lower-of .ensures ∙ e ∙ sym
+    (at-lower-of2 .lower-of2 .ensures))) ∙ loop .inv .1
 
 loop-again : tie.Need-loop-again Inv-loop μ-loop
 loop-again c =
-    let loop = c .before .before .before .before .before .before .loop in
-    let args = c .before .before .before .before .before .before .before .before .before .before .args in
-    (loop .inv .0, same-next (args .a .now) (args .b .now) (loop .i) (omega arith) (loop .inv .0) (sym (c .before .before .before .lower-of .ensures) ∙ c .if2 .left ∙ c .before .lower-of2 .ensures) ∙ loop .inv .1)
+    let at-lower-of2 = c .before in
+    let at-lower-of = at-lower-of2 .before .before in
+    let at-loop = at-lower-of .before .before .before in
+    let start = at-loop .before .before .before .before in
+    let loop = at-loop .loop in
+    let args = start .args in (
+      loop .inv .0,
+      same-next (args .a .now) (args .b .now) (loop .i) (omega arith) (loop .inv .0) (sym
+          (at-lower-of .lower-of .ensures) ∙ c .if2 .left ∙ at-lower-of2 .lower-of2 .ensures) ∙ loop .inv .1,
+    )
 
 returns-3 : tie.Need-returns-3 Inv-loop μ-loop
 returns-3 c =
-    let args = c .before .before .before .before .before .args in
-    let loop = c .before .loop in
+    let at-loop = c .before in
+    let start = at-loop .before .before .before .before in
+    let args = start .args in
+    let loop = at-loop .loop in
     same-end (args .a .now) (args .b .now) (loop .i) (omega arith) (loop .inv .0) ∙ loop .inv .1
 
 pub same-text-spec : {M : Type 1} → statement M
@@ -66,12 +62,12 @@ same-text-spec =
     μ-loop
     returns
     loop-holds
-    shared-slice-read-lower-of
-    lower-of-requires
-    shared-slice-read-lower-of-2
-    lower-of-requires-2
+    (λ c. search needs)
+    (λ c κs. search needs)
+    (λ c. search needs)
+    (λ c κs. search needs)
     returns-2
-    add-i
-    loop-less
+    (λ c. search needs)
+    (λ c. search needs)
     loop-again
     returns-3)

@@ -17,25 +17,20 @@ abbrev μ-loop : tie.MeasureT-loop
 loop-holds : tie.Need-loop-holds Inv-loop μ-loop
 loop-holds c = refl
 
-shared-slice-read-if1 : tie.Need-shared-slice-read-if1 Inv-loop μ-loop
-shared-slice-read-if1 c = search needs
-
 returns : tie.Need-returns Inv-loop μ-loop
 returns c =
-    let args = c .before .before .before .before .args in
-    let loop = c .before .before .before .loop in
+    let at-loop = c .before .before .before in
+    let start = at-loop .before in
+    let args = start .args in
+    let loop = at-loop .loop in
     (seek-here (args .head .now) (loop .i) (args .byte) (omega arith) (c .if1 .taken) ∙ loop .inv, omega arith)
-
-add-i : tie.Need-add-i Inv-loop μ-loop
-add-i c = search needs
-
-loop-less : tie.Need-loop-less Inv-loop μ-loop
-loop-less c = search needs
 
 loop-again : tie.Need-loop-again Inv-loop μ-loop
 loop-again c =
-    let args = c .before .before .before .before .args in
-    let loop = c .before .before .before .loop in
+    let at-loop = c .before .before .before in
+    let start = at-loop .before in
+    let args = start .args in
+    let loop = at-loop .loop in
     seek-next (args .head .now) (loop .i) (args .byte) (omega arith) (c .if1 .left) ∙ loop .inv
 
 returns-2 : tie.Need-returns-2 Inv-loop μ-loop
@@ -51,9 +46,9 @@ seek-byte-spec =
     Inv-loop
     μ-loop
     loop-holds
-    shared-slice-read-if1
+    (λ c. search needs)
     returns
-    add-i
-    loop-less
+    (λ c. search needs)
+    (λ c. search needs)
     loop-again
     returns-2)

@@ -5,41 +5,42 @@ use Rattle.header.specs.Layouts.{fieldSize}
 use Rattle.header.proofs.size_of.Statement.{statement}
 use Rattle.header.proofs.size_of.Tie as tie
 
-is-varying-requires : tie.Need-is-varying-requires
-is-varying-requires c κs = search needs
-
 returns : tie.Need-returns
 unfolding fieldSize
 returns c = (simp (c .if1 .taken, ← c .before .is-varying .ensures), search needs)
 
-kind-of-requires : tie.Need-kind-of-requires
-kind-of-requires c κs = search needs
-
-width-requires : tie.Need-width-requires
-width-requires c κs = search needs
-
-cast-result : tie.Need-cast-result
-cast-result c = search needs
-
 mul-result : tie.Need-mul-result
 mul-result c =
-    let width = c .before .width in
-    omega (arith, size-room (c .before .before .before .before .before .args .d .count) (width .result) (c .before .before .before .before .before .pre) (width .ensures .1))
+    let at-width = c .before in
+    let start = at-width .before .before .before .before in
+    let width = at-width .width in
+    omega (arith, size-room (start .args .d .count) (width .result) (start .pre) (width .ensures .1))
 
 returns-2 : tie.Need-returns-2
 unfolding fieldSize
 returns-2 c =
-    let width = c .before .width in
-    (simp (← width .ensures .0, ← c .before .before .kind-of .ensures, c .before .before .before .if1 .left, ← c .before .before .before .before .is-varying .ensures), omega (arith, size-room (c .before .before .before .before .before .args .d .count) (width .result) (c .before .before .before .before .before .pre) (width .ensures .1)))
+    let at-width = c .before in
+    let at-kind-of = at-width .before in
+    let at-if1 = at-kind-of .before in
+    let at-is-varying = at-if1 .before in
+    let start = at-is-varying .before in
+    let width = at-width .width in (
+      simp (← width .ensures .0, ← at-kind-of .kind-of .ensures, at-if1 .if1 .left, ← at-is-varying .is-varying .ensures),
+      omega (
+        arith,
+        size-room
+            (start .args .d .count) (width .result) (start .pre) (width .ensures .1),
+      ),
+    )
 
 pub size-of-spec : {M : Type 1} → statement M
 size-of-spec =
     tie.close
     (tie.spec
-    is-varying-requires
+    (λ c κs. search needs)
     returns
-    kind-of-requires
-    width-requires
-    cast-result
+    (λ c κs. search needs)
+    (λ c κs. search needs)
+    (λ c. search needs)
     mul-result
     returns-2)

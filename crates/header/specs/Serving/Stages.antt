@@ -23,7 +23,8 @@ use Rattle.header.specs.declared.Step.{Step}
 use Rattle.header.specs.declared.Judged.the-variants.{Sound, Refused}
 use Rattle.header.specs.Places.{span, column}
 use Rattle.header.specs.Names.{namedBefore}
-use Rattle.header.specs.Judge.{mostText, mostColumns, orderOfFile, textLength, columnCount, grammarRefusal, columnsOf, columnRefusal, idColumn, idWrong, headerRefusal}
+use Rattle.header.specs.Judge.{mostText, mostColumns, orderOfFile, textLength, columnCount, grammarRefusal, columnsOf, columnRefusal}
+use Rattle.header.specs.Judge.{idColumn, idWrong, headerRefusal}
 use Rattle.header.specs.Layouts.{kindOf, fieldSize, blankColumn, laidOut, rowWidth}
 use Rattle.header.specs.Steps.{startsAt, stepFrom}
 

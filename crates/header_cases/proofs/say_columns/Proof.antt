@@ -9,45 +9,18 @@ Inv-loop cols count i₀ i = (i ≤ count) × (count ≤ 64)
 abbrev μ-loop : tie.MeasureT-loop
 μ-loop cols count i₀ i = count - i
 
-within-requires : tie.Need-within-requires Inv-loop μ-loop
-within-requires c κs = search needs
-
-loop-holds : tie.Need-loop-holds Inv-loop μ-loop
-loop-holds c = search needs
-
-mul-c : tie.Need-mul-c Inv-loop μ-loop
-mul-c c = search needs
-
-array-copy-out-c : tie.Need-array-copy-out-c Inv-loop μ-loop
-array-copy-out-c c = search needs
-
-say-column-requires : tie.Need-say-column-requires Inv-loop μ-loop
-say-column-requires c κs = search needs
-
-add-i : tie.Need-add-i Inv-loop μ-loop
-add-i c = search needs
-
-loop-less : tie.Need-loop-less Inv-loop μ-loop
-loop-less c = search needs
-
-loop-again : tie.Need-loop-again Inv-loop μ-loop
-loop-again c = search needs
-
-returns : tie.Need-returns Inv-loop μ-loop
-returns c = search needs
-
 pub say-columns-spec : {M : Type 1} → statement M
 say-columns-spec =
     tie.close
     (tie.spec
     Inv-loop
     μ-loop
-    within-requires
-    loop-holds
-    mul-c
-    array-copy-out-c
-    say-column-requires
-    add-i
-    loop-less
-    loop-again
-    returns)
+    (λ c κs. search needs)
+    (λ c. search needs)
+    (λ c. search needs)
+    (λ c. search needs)
+    (λ c κs. search needs)
+    (λ c. search needs)
+    (λ c. search needs)
+    (λ c. search needs)
+    (λ c. search needs))

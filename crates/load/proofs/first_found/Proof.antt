@@ -3,12 +3,10 @@ use Rattle.load.specs.Load.{firstFound}
 use Rattle.load.proofs.first_found.Statement.{statement}
 use Rattle.load.proofs.first_found.Tie as tie
 
--- src/lib.rt:69:1
 returns : tie.Need-returns
 unfolding firstFound
 returns c = simp (eq-eqb _ _ (c .if1 .taken))
 
--- src/lib.rt:69:1
 returns-2 : tie.Need-returns-2
 unfolding firstFound
 returns-2 c = simp (ne-eqb _ _ (c .if1 .left))

@@ -4,106 +4,70 @@ use borrow.Author.Needs.{needs}
 use Rattle.load.proofs.open_all.Statement.{statement}
 use Rattle.load.proofs.open_all.Tie as tie
 
--- src/lib.rt:91:9
-open-within-requires : tie.Need-open-within-requires
-open-within-requires c κs = search needs
-
--- src/lib.rt:92:9
-open-within-requires-2 : tie.Need-open-within-requires-2
-open-within-requires-2 c κs = search needs
-
--- src/lib.rt:93:9
-open-within-requires-3 : tie.Need-open-within-requires-3
-open-within-requires-3 c κs = search needs
-
--- src/lib.rt:94:9
-open-within-requires-4 : tie.Need-open-within-requires-4
-open-within-requires-4 c κs = search needs
-
--- src/lib.rt:96:34
-refusal-of-requires : tie.Need-refusal-of-requires
-refusal-of-requires c κs = search needs
-
--- src/lib.rt:96:9
-find-requires : tie.Need-find-requires
-find-requires c κs = search needs
-
--- src/lib.rt:98:34
-refusal-of-requires-2 : tie.Need-refusal-of-requires-2
-refusal-of-requires-2 c κs = search needs
-
--- src/lib.rt:98:9
-find-requires-2 : tie.Need-find-requires-2
-find-requires-2 c κs = search needs
-
--- src/lib.rt:100:34
-refusal-of-requires-3 : tie.Need-refusal-of-requires-3
-refusal-of-requires-3 c κs = search needs
-
--- src/lib.rt:100:9
-find-requires-3 : tie.Need-find-requires-3
-find-requires-3 c κs = search needs
-
--- src/lib.rt:102:34
-refusal-of-requires-4 : tie.Need-refusal-of-requires-4
-refusal-of-requires-4 c κs = search needs
-
--- src/lib.rt:102:9
-find-requires-4 : tie.Need-find-requires-4
-find-requires-4 c κs = search needs
-
--- src/lib.rt:103:98
-no-refusal-requires : tie.Need-no-refusal-requires
-no-refusal-requires c κs = search needs
-
--- src/lib.rt:103:77
-find-requires-5 : tie.Need-find-requires-5
-find-requires-5 c κs = search needs
-
--- src/lib.rt:103:62
-first-found-requires : tie.Need-first-found-requires
-first-found-requires c κs = search needs
-
--- src/lib.rt:103:47
-first-found-requires-2 : tie.Need-first-found-requires-2
-first-found-requires-2 c κs = search needs
-
--- src/lib.rt:103:32
-first-found-requires-3 : tie.Need-first-found-requires-3
-first-found-requires-3 c κs = search needs
-
--- src/lib.rt:103:9
-first-found-requires-4 : tie.Need-first-found-requires-4
-first-found-requires-4 c κs = search needs
-
--- src/lib.rt:88:1
 returns : tie.Need-returns
 returns c =
-    let s = (c .before .before .before .before .before .before .before .before .before .before .before .before .before .before .before .before .before .before .before .before .before .before .before .before .before .before .before .before .before .before .args) in
+    let at-first-found4 = c .before .before .before .before in
+    let at-first-found3 = at-first-found4 .before in
+    let at-first-found2 = at-first-found3 .before in
+    let at-first-found = at-first-found2 .before in
+    let at-find5 = at-first-found .before in
+    let at-no-refusal = at-find5 .before in
+    let at-find4 = at-no-refusal .before in
+    let at-refusal-of4 = at-find4 .before in
+    let at-find3 = at-refusal-of4 .before in
+    let at-refusal-of3 = at-find3 .before in
+    let at-find2 = at-refusal-of3 .before in
+    let at-refusal-of2 = at-find2 .before in
+    let at-find = at-refusal-of2 .before in
+    let at-refusal-of = at-find .before in
+    let at-open-within4 = at-refusal-of .before in
+    let at-open-within3 = at-open-within4 .before in
+    let at-open-within2 = at-open-within3 .before in
+    let at-open-within = at-open-within2 .before in
+    let start = at-open-within .before .before .before .before .before .before .before .before .before in
+    let s = start .args in
     all-opened (files (s .edg .now) (s .edx .now) (s .fac .now) (s .fax .now) (s .rng .now) (s .rnx .now) (s .cnd .now) (s .cnx .now)) (s .most) _ _ _ _
-    ((c .before .before .before .before .before .before .before .before .before .before .before .before .before .before .before .before .before .before .before .before .before .open-within) .ensures) ((c .before .before .before .before .before .before .before .before .before .before .before .before .before .before .before .before .before .before .before .before .open-within2) .ensures) ((c .before .before .before .before .before .before .before .before .before .before .before .before .before .before .before .before .before .before .before .open-within3) .ensures) ((c .before .before .before .before .before .before .before .before .before .before .before .before .before .before .before .before .before .before .open-within4) .ensures) _
-    (simp (← (c .before .before .before .before .first-found4) .ensures, ← (c .before .before .before .before .before .first-found3) .ensures, ← (c .before .before .before .before .before .before .first-found2) .ensures, ← (c .before .before .before .before .before .before .before .first-found) .ensures, ← (c .before .before .before .before .before .before .before .before .find5) .ensures, ← (c .before .before .before .before .before .before .before .before .before .no-refusal) .ensures, ← (c .before .before .before .before .before .before .before .before .before .before .find4) .ensures, ← (c .before .before .before .before .before .before .before .before .before .before .before .refusal-of4) .ensures, ← (c .before .before .before .before .before .before .before .before .before .before .before .before .find3) .ensures, ← (c .before .before .before .before .before .before .before .before .before .before .before .before .before .refusal-of3) .ensures, ← (c .before .before .before .before .before .before .before .before .before .before .before .before .before .before .find2) .ensures, ← (c .before .before .before .before .before .before .before .before .before .before .before .before .before .before .before .refusal-of2) .ensures, ← (c .before .before .before .before .before .before .before .before .before .before .before .before .before .before .before .before .find) .ensures, ← (c .before .before .before .before .before .before .before .before .before .before .before .before .before .before .before .before .before .refusal-of) .ensures))
+    (at-open-within .open-within .ensures) (at-open-within2 .open-within2 .ensures) (at-open-within3 .open-within3 .ensures) (at-open-within4 .open-within4 .ensures) _
+    (simp (
+      ← (at-first-found4 .first-found4) .ensures,
+      ← (at-first-found3 .first-found3) .ensures,
+      ← (at-first-found2 .first-found2) .ensures,
+      ←
+          (at-first-found .first-found) .ensures,
+      ← (at-find5 .find5) .ensures,
+      ← (at-no-refusal .no-refusal) .ensures,
+      ← (at-find4 .find4) .ensures,
+      ←
+          (at-refusal-of4 .refusal-of4) .ensures,
+      ← (at-find3 .find3) .ensures,
+      ← (at-refusal-of3 .refusal-of3) .ensures,
+      ← (at-find2 .find2) .ensures,
+      ←
+          (at-refusal-of2 .refusal-of2) .ensures,
+      ← (at-find .find) .ensures,
+      ← (at-refusal-of .refusal-of) .ensures,
+    ))
 
 pub open-all-spec : {M : Type 1} → statement M
 open-all-spec =
     tie.close
     (tie.spec
-    open-within-requires
-    open-within-requires-2
-    open-within-requires-3
-    open-within-requires-4
-    refusal-of-requires
-    find-requires
-    refusal-of-requires-2
-    find-requires-2
-    refusal-of-requires-3
-    find-requires-3
-    refusal-of-requires-4
-    find-requires-4
-    no-refusal-requires
-    find-requires-5
-    first-found-requires
-    first-found-requires-2
-    first-found-requires-3
-    first-found-requires-4
+    (λ c κs. search needs)
+    (λ c κs. search needs)
+    (λ c κs. search needs)
+    (λ c κs. search needs)
+    (λ c κs. search needs)
+    (λ c κs. search needs)
+    (λ c κs. search needs)
+    (λ c κs. search needs)
+    (λ c κs. search needs)
+    (λ c κs. search needs)
+    (λ c κs. search needs)
+    (λ c κs. search needs)
+    (λ c κs. search needs)
+    (λ c κs. search needs)
+    (λ c κs. search needs)
+    (λ c κs. search needs)
+    (λ c κs. search needs)
+    (λ c κs. search needs)
     returns)

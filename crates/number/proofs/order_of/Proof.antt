@@ -3,25 +3,19 @@ use borrow.Author.Tests.{eq-eqb, ne-eqb}
 use Rattle.number.specs.Bytes.{orderOf}
 use Rattle.number.proofs.order_of.Statement.{statement}
 use Rattle.number.proofs.order_of.Tie as tie
-use Rattle.number.proofs.order_of.Reads as reads
-use Rattle.number.proofs.order_of.Lts as lts
 
--- src/lib.rt:22:1
 returns : tie.Need-returns
 unfolding orderOf
 returns c = simp (eq-eqb _ _ (c .if1 .taken))
 
--- src/lib.rt:22:1
 returns-2 : tie.Need-returns-2
 unfolding orderOf
 returns-2 c = simp (eq-eqb _ _ (c .if2 .taken), ne-eqb _ _ (c .before .if1 .left))
 
--- src/lib.rt:22:1
 returns-3 : tie.Need-returns-3
 unfolding orderOf
 returns-3 c = simp (eq-eqb _ _ (c .if3 .taken), ne-eqb _ _ (c .before .if2 .left), ne-eqb _ _ (c .before .before .if1 .left))
 
--- src/lib.rt:22:1
 returns-4 : tie.Need-returns-4
 unfolding orderOf
 returns-4 c = simp (ne-eqb _ _ (c .if3 .left), ne-eqb _ _ (c .before .if2 .left), ne-eqb _ _ (c .before .before .if1 .left))

@@ -5,72 +5,54 @@ use mathlib.Core.Path.{_≡_, sym, ap, _∙_}
 use borrow.Author.Needs.{needs}
 use Rattle.opening.proofs.judge_opening.Statement.{statement}
 use Rattle.opening.proofs.judge_opening.Tie as tie
-use Rattle.opening.proofs.judge_opening.Reads as reads
-use Rattle.opening.proofs.judge_opening.Lts as lts
-use Rattle.refusal.proofs.first_of_two.Reads as first-of-two-reads
-use Rattle.refusal.proofs.no_refusal.Reads as no-refusal-reads
-use Rattle.refusal.proofs.refuse.Reads as refuse-reads
-use Rattle.opening.proofs.most_taken.Reads as most-taken-reads
-use Rattle.opening.proofs.count_rows.Reads as count-rows-reads
-use Rattle.opening.proofs.judge_body.Reads as judge-body-reads
-use Rattle.opening.proofs.lacks_head.Reads as lacks-head-reads
 
--- src/opening.rt:146:8
-lacks-head-requires : tie.Need-lacks-head-requires
-lacks-head-requires c κs = search needs
-
--- src/opening.rt:147:9
-refuse-requires : tie.Need-refuse-requires
-refuse-requires c κs = search needs
-
--- src/opening.rt:147:9
 returns : tie.Need-returns
-returns c = (c .refuse) .ensures ∙ open-head ((c .before .before .before .before .args) .layout) ((c .before .before .before .before .args) .index .now) ((c .before .before .before .before .args) .size) ((c .before .before .before .before .args) .most) (sym ((c .before .before .lacks-head) .ensures) ∙ (c .before .if1) .taken)
+returns c =
+    let at-if1 = c .before in
+    let at-lacks-head = at-if1 .before in
+    let start = at-lacks-head .before .before in
+    (c .refuse) .ensures ∙ open-head (start .args .layout) (start .args .index .now) (start .args .size) (start .args .most) (sym
+    (at-lacks-head .lacks-head .ensures) ∙ at-if1 .if1 .taken)
 
--- src/opening.rt:149:9
-count-rows-requires : tie.Need-count-rows-requires
-count-rows-requires c κs = search needs
-
--- src/opening.rt:150:8
-most-taken-requires : tie.Need-most-taken-requires
-most-taken-requires c κs = search needs
-
--- src/opening.rt:151:9
-refuse-requires-2 : tie.Need-refuse-requires-2
-refuse-requires-2 c κs = search needs
-
--- src/opening.rt:151:9
 returns-2 : tie.Need-returns-2
-returns-2 c = (c .refuse2) .ensures ∙ open-rows ((c .before .before .before .before .before .before .before .args) .layout) ((c .before .before .before .before .before .before .before .args) .index .now) ((c .before .before .before .before .before .before .before .args) .size) ((c .before .before .before .before .before .before .before .args) .most) (sym ((c .before .before .before .before .before .lacks-head) .ensures) ∙ (c .before .before .before .before .if1) .left) ((c .before .before .before .count-rows) .result) ((c .before .before .before .count-rows) .ensures) (rw ((c .before .before .most-taken) .ensures) at ((c .before .if2) .taken))
+returns-2 c =
+    let at-if2 = c .before in
+    let at-most-taken = at-if2 .before in
+    let at-count-rows = at-most-taken .before in
+    let at-if1 = at-count-rows .before in
+    let at-lacks-head = at-if1 .before in
+    let start = at-lacks-head .before .before in
+    (c .refuse2) .ensures ∙ open-rows (start .args .layout) (start .args .index .now) (start .args .size) (start .args .most) (sym
+    (at-lacks-head .lacks-head .ensures) ∙ at-if1 .if1 .left) (at-count-rows .count-rows .result) (at-count-rows .count-rows .ensures) (rw
+    (at-most-taken .most-taken .ensures) at (at-if2 .if2 .taken))
 
--- src/opening.rt:153:27
-judge-body-requires : tie.Need-judge-body-requires
-judge-body-requires c κs = search needs
-
--- src/opening.rt:153:60
-no-refusal-requires : tie.Need-no-refusal-requires
-no-refusal-requires c κs = search needs
-
--- src/opening.rt:153:5
-first-of-two-requires : tie.Need-first-of-two-requires
-first-of-two-requires c κs = search needs
-
--- src/opening.rt:143:1
 returns-3 : tie.Need-returns-3
-returns-3 c = rw ((c .first-of-two) .ensures, (c .before .no-refusal) .ensures) (open-rest ((c .before .before .before .before .before .before .before .before .before .args) .layout) ((c .before .before .before .before .before .before .before .before .before .args) .index .now) ((c .before .before .before .before .before .before .before .before .before .args) .size) ((c .before .before .before .before .before .before .before .before .before .args) .most) (sym ((c .before .before .before .before .before .before .before .lacks-head) .ensures) ∙ (c .before .before .before .before .before .before .if1) .left) ((c .before .before .before .before .before .count-rows) .result) ((c .before .before .before .before .before .count-rows) .ensures) (rw ((c .before .before .before .before .most-taken) .ensures) at ((c .before .before .before .if2) .left)) ((c .before .before .judge-body) .result) ((c .before .before .judge-body) .ensures))
+returns-3 c =
+    let at-no-refusal = c .before in
+    let at-judge-body = at-no-refusal .before in
+    let at-if2 = at-judge-body .before in
+    let at-most-taken = at-if2 .before in
+    let at-count-rows = at-most-taken .before in
+    let at-if1 = at-count-rows .before in
+    let at-lacks-head = at-if1 .before in
+    let start = at-lacks-head .before .before in
+    rw (c .first-of-two .ensures, at-no-refusal .no-refusal .ensures) (open-rest (start .args .layout) (start .args .index .now) (start .args .size)
+    (start .args .most) (sym (at-lacks-head .lacks-head .ensures) ∙ at-if1 .if1 .left) (at-count-rows .count-rows .result)
+    (at-count-rows .count-rows .ensures) (rw (at-most-taken .most-taken .ensures) at (at-if2 .if2 .left)) (at-judge-body .judge-body .result)
+    (at-judge-body .judge-body .ensures))
 
 pub judge-opening-spec : {M : Type 1} → statement M
 judge-opening-spec =
     tie.close
     (tie.spec
-    lacks-head-requires
-    refuse-requires
+    (λ c κs. search needs)
+    (λ c κs. search needs)
     returns
-    count-rows-requires
-    most-taken-requires
-    refuse-requires-2
+    (λ c κs. search needs)
+    (λ c κs. search needs)
+    (λ c κs. search needs)
     returns-2
-    judge-body-requires
-    no-refusal-requires
-    first-of-two-requires
+    (λ c κs. search needs)
+    (λ c κs. search needs)
+    (λ c κs. search needs)
     returns-3)

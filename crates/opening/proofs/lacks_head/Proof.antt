@@ -2,14 +2,10 @@ use borrow.Author.Needs.{needs}
 use borrow.Author.Tests.{eq-eqb, ne-eqb}
 use Rattle.opening.proofs.lacks_head.Statement.{statement}
 use Rattle.opening.proofs.lacks_head.Tie as tie
-use Rattle.opening.proofs.lacks_head.Reads as reads
-use Rattle.opening.proofs.lacks_head.Lts as lts
 
--- src/opening.rt:49:9
 returns : tie.Need-returns
 returns c = simp (eq-eqb _ _ (c .if1 .taken))
 
--- src/opening.rt:45:1
 returns-2 : tie.Need-returns-2
 returns-2 c = simp (ne-eqb _ _ (c .if1 .left))
 

@@ -1,6 +1,7 @@
--- `reader::open` meets its contract: a walk of its MIR, by hand. `first_place` is called on the slice, and a `Reader` is made of the slice and the number that it answers.
--- A `&[u8]` is Copy, so what it owns is had as often as it is asked for: by the callee, by the result, and at exit. All that the proof knows of `first_place` is that it meets its contract.
--- Assumes nothing.
+-- `reader::open` meets its contract: a walk of its MIR, by hand. `first_place` is called on the slice, and a `Reader` is made of the slice
+-- and the number that it answers.
+-- A `&[u8]` is Copy, so what it owns is had as often as it is asked for: by the callee, by the result, and at exit. All that the proof
+-- knows of `first_place` is that it meets its contract.
 use mathlib.Core.Path.{_≡_, refl, ap}
 use Prim.Native.Nat.{ℕ}
 use mathlib.Core.List.{List, [], _∷_}

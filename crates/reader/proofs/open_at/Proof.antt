@@ -1,6 +1,5 @@
 -- `reader::open_at` meets its contract: a walk of its MIR, by hand. A `Reader` is made of the slice and the number passed, in the result's local.
 -- A `&[u8]` is Copy, so what it owns is had twice: once for the file at exit, and once inside the result.
--- Assumes nothing.
 use mathlib.Core.Path.{_≡_, refl}
 use Prim.Native.Nat.{ℕ, _<_, _^_}
 use mathlib.Core.List.{List, [], _∷_}

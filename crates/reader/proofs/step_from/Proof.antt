@@ -1,6 +1,6 @@
--- `reader::step_from` meets its contract: a walk of its MIR, by hand. A `Reader` that `open_at` returns is held in a local, lent to `step` by `&mut`, and comes back moved; its place is read beside the step's answer.
+-- `reader::step_from` meets its contract: a walk of its MIR, by hand. A `Reader` that `open_at` returns is held in a local, lent to `step`
+-- by `&mut`, and comes back moved; its place is read beside the step's answer.
 -- All that the proof knows of each callee is that it meets its contract.
--- Assumes nothing.
 use mathlib.Core.Path.{_≡_, refl, ap, _∙_}
 use Prim.Native.Nat.{ℕ, _<_, _^_}
 use mathlib.Core.List.{List, [], _∷_}
@@ -18,7 +18,8 @@ use contract.Monad.{Fun}
 use contract.Running.{givenOf, tables, tablesOf}
 use types.Kit.{Given, ‵, raw, _⊛_, _$_, _∵_, !, qed, by, move, keep, use1, use2, split, fsplit}
 use types.Part.{whole, sub, look-in, agg}
-use types.Run.{look, init, forget, stop, fld, from, load, addr, of-opd, and-then, no-more, assigns, land, returns, enter, alloc1, alloc0, params1, pass1, pass0, free1, free0}
+use types.Run.{look, init, forget, stop, fld, from, load, addr, of-opd, and-then, no-more, assigns, land, returns, enter, alloc1, alloc0}
+use types.Run.{params1, pass1, pass0, free1, free0}
 use sound.WpLaws.{FmC, fmOf}
 use denote.RattleType.{RattleType, owns}
 use denote.Laws.{Is, Typed, shows}
@@ -39,7 +40,8 @@ use Rattle.reader.specs.declared.Reader.{Reader}
 use Rattle.reader.specs.declared.Moved.{Moved}
 use Rattle.reader.specs.Moves.{readerAt, gives, moved, movedFrom}
 use Rattle.reader.proofs.Calls.{Of, answers, both-hold}
-use Rattle.reader.proofs.Held.{typed-local, answer-typed, value-of, slice-value, typed, OwnSlice, lends-number, number, number-stays, entry, post, leaves, of-slice-number}
+use Rattle.reader.proofs.Held.{typed-local, answer-typed, value-of, slice-value, typed, OwnSlice, lends-number, number, number-stays}
+use Rattle.reader.proofs.Held.{entry, post, leaves, of-slice-number}
 use Rattle.reader.proofs.Lent.{Lies, lies-in, lies-out, steps-local}
 use Rattle.reader.proofs.Reader as T
 use Rattle.reader.proofs.Reader.Laws as T′

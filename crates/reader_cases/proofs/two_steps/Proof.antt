@@ -1,6 +1,6 @@
--- `reader_cases::two_steps` meets its contract: a walk of its MIR, by hand. A `Reader` that `open` returns is held in a local, lent to `step` twice by `&mut`, and its place is read beside the answers.
+-- `reader_cases::two_steps` meets its contract: a walk of its MIR, by hand. A `Reader` that `open` returns is held in a local, lent to
+-- `step` twice by `&mut`, and its place is read beside the answers.
 -- All that the proof knows of each callee is that it meets its contract.
--- Assumes nothing.
 use mathlib.Core.Path.{_≡_, refl, ap, _∙_}
 use mathlib.Core.Bool.{Bool, true, false, _&&_}
 use lib.Dec.{T as Holds}
@@ -20,7 +20,8 @@ use contract.Monad.{Fun}
 use contract.Running.{givenOf, tables, tablesOf}
 use types.Kit.{Given, ‵, raw, _⊛_, _$_, _∵_, !, qed, by, move, keep, drop, use1, use2, split, fsplit}
 use types.Part.{whole, sub, look-in, agg}
-use types.Run.{look, init, forget, stop, fld, from, load, addr, of-opd, and-then, no-more, assigns, land, returns, enter, alloc1, alloc0, params1, pass1, pass0, free1, free0}
+use types.Run.{look, init, forget, stop, fld, from, load, addr, of-opd, and-then, no-more, assigns, land, returns, enter, alloc1, alloc0}
+use types.Run.{params1, pass1, pass0, free1, free0}
 use sound.WpLaws.{FmC, fmOf}
 use denote.RattleType.{RattleType, owns}
 use denote.Laws.{Is, Typed, shows}

@@ -39,8 +39,16 @@ returns-4 c =
     let kind = told .before in
     let asked = kind .before .before in
     let there = asked .before .before in
-    simp (← c .no-rectangle3 .ensures, c .before .if3 .left, ← told .has-coordinates .ensures, ← kind .kind-at .ensures, kind .before .if2 .left,
-      ← asked .no-such-column .ensures, there .if1 .left, ← there .before .no-such-row .ensures)
+    simp (
+      ← c .no-rectangle3 .ensures,
+      c .before .if3 .left,
+      ← told .has-coordinates .ensures,
+      ← kind .kind-at .ensures,
+      kind .before .if2 .left,
+      ← asked .no-such-column .ensures,
+      there .if1 .left,
+      ← there .before .no-such-row .ensures,
+    )
 
 pub find-rectangle-spec : {M : Type 1} → statement M
 find-rectangle-spec =

@@ -3,15 +3,11 @@ use borrow.Author.Tests.{eq-eqb, ne-eqb}
 use Rattle.refusal.specs.Order.{first}
 use Rattle.refusal.proofs.first_of_two.Statement.{statement}
 use Rattle.refusal.proofs.first_of_two.Tie as tie
-use Rattle.refusal.proofs.first_of_two.Reads as reads
-use Rattle.refusal.proofs.first_of_two.Lts as lts
 
--- src/lib.rt:35:1
 returns : tie.Need-returns
 unfolding first
 returns c = simp (eq-eqb _ _ (c .if1 .taken))
 
--- src/lib.rt:35:1
 returns-2 : tie.Need-returns-2
 unfolding first
 returns-2 c = simp (ne-eqb _ _ (c .if1 .left))

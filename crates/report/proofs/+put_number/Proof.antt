@@ -1,6 +1,5 @@
 -- The proof of the cycle of calls {put_number}: the measure is the number itself. A number below ten is one digit; any other is what its
 -- tenth wrote, with the last digit behind it.
--- Assumes nothing.
 use borrow.Author.Needs.{needs}
 use Prim.Native.Nat.{ℕ, _<_}
 use native.Mathlib.Omega.{arith}

@@ -1,24 +1,17 @@
 -- `report::file_of_finding` meets its contract: an index refusal is the index file's, every other the table's.
--- Assumes nothing.
 use borrow.Author.Needs.{needs}
 use borrow.Author.Tests.{eq-eqb, ne-eqb}
 use Rattle.report.specs.Files.{fileOfFinding}
 use Rattle.report.proofs.file_of_finding.Statement.{statement}
 use Rattle.report.proofs.file_of_finding.Tie as tie
 
-of-index-requires : tie.Need-of-index-requires
-of-index-requires c κs = search needs
-
 returns : tie.Need-returns
 unfolding fileOfFinding
 returns c = simp (← c .of-index .ensures, eq-eqb _ _ (c .before .if1 .taken))
-
-of-table-requires : tie.Need-of-table-requires
-of-table-requires c κs = search needs
 
 returns-2 : tie.Need-returns-2
 unfolding fileOfFinding
 returns-2 c = simp (← c .of-table .ensures, ne-eqb _ _ (c .before .if1 .left))
 
 pub file-of-finding-spec : {M : Type 1} → statement M
-file-of-finding-spec = tie.close (tie.spec of-index-requires returns of-table-requires returns-2)
+file-of-finding-spec = tie.close (tie.spec (λ c κs. search needs) returns (λ c κs. search needs) returns-2)

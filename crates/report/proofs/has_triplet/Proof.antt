@@ -1,5 +1,4 @@
 -- `report::has_triplet` meets its contract: none of the columns passed is a triplet, and the first that is answers.
--- Assumes nothing.
 use Rattle.report.specs.Files.{tripletColumn, hasTriplet}
 use Rattle.table.specs.Rows.{columnsOf}
 use Rattle.laws.proofs.LowestLaws.{none-start, none-next, lowest-found, lowest-nothing}
@@ -18,42 +17,30 @@ Inv-loop layout n k₀ k = (k ≤ n) × None (tripletColumn layout) k
 abbrev μ-loop : tie.MeasureT-loop
 μ-loop layout n k₀ k = n - k
 
-column-count-requires : tie.Need-column-count-requires Inv-loop μ-loop
-column-count-requires c κs = search needs
-
 loop-holds : tie.Need-loop-holds Inv-loop μ-loop
 loop-holds c = (omega arith, none-start (tripletColumn ((c .before .args) .t1)))
-
-mul-column : tie.Need-mul-column Inv-loop μ-loop
-mul-column c = search needs
-
-element-copy-out-column : tie.Need-element-copy-out-column Inv-loop μ-loop
-element-copy-out-column c = search needs
-
-is-triplet-requires : tie.Need-is-triplet-requires Inv-loop μ-loop
-is-triplet-requires c κs = search needs
 
 returns : tie.Need-returns Inv-loop μ-loop
 unfolding hasTriplet
 returns c =
-    let l = (c .before .before .before .before .before .before .args) .t1 in
-    let k = (c .before .before .before .before .loop) .k in
-    rw (lowest-found (tripletColumn l) (columnsOf l) k (omega arith) ((c .before .before .before .before .loop) .inv .1) (sym
-    ((c .before .is-triplet) .ensures) ∙ (c .if1) .taken))
+    let at-is-triplet = c .before in
+    let at-loop = at-is-triplet .before .before .before in
+    let start = at-loop .before .before in
+    let l = start .args .t1 in
+    let k = at-loop .loop .k in
+    rw (lowest-found (tripletColumn l) (columnsOf l) k (omega arith) (at-loop .loop .inv .1) (sym
+    (at-is-triplet .is-triplet .ensures) ∙ c .if1 .taken))
     (sym (lt-ltb 0 (suc k) (omega arith)))
 
-add-k : tie.Need-add-k Inv-loop μ-loop
-add-k c = search needs
-
-loop-less : tie.Need-loop-less Inv-loop μ-loop
-loop-less c = search needs
-
 loop-again : tie.Need-loop-again Inv-loop μ-loop
-loop-again c = (
-  omega arith,
-  none-next (tripletColumn ((c .before .before .before .before .before .before .args) .t1))
-      ((c .before .before .before .before .loop) .k) ((c .before .before .before .before .loop) .inv .1) (sym ((c .before .is-triplet) .ensures) ∙ (c .if1) .left),
-)
+loop-again c =
+    let at-is-triplet = c .before in
+    let at-loop = at-is-triplet .before .before .before in
+    let start = at-loop .before .before in (
+      omega arith,
+      none-next (tripletColumn (start .args .t1))
+          (at-loop .loop .k) (at-loop .loop .inv .1) (sym (at-is-triplet .is-triplet .ensures) ∙ c .if1 .left),
+    )
 
 returns-2 : tie.Need-returns-2 Inv-loop μ-loop
 unfolding hasTriplet
@@ -68,13 +55,13 @@ has-triplet-spec =
     (tie.spec
     Inv-loop
     μ-loop
-    column-count-requires
+    (λ c κs. search needs)
     loop-holds
-    mul-column
-    element-copy-out-column
-    is-triplet-requires
+    (λ c. search needs)
+    (λ c. search needs)
+    (λ c κs. search needs)
     returns
-    add-k
-    loop-less
+    (λ c. search needs)
+    (λ c. search needs)
     loop-again
     returns-2)

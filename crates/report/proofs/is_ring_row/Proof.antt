@@ -1,5 +1,4 @@
 -- `report::is_ring_row` meets its contract: the place is tested to be a ring row before its face is read.
--- Assumes nothing.
 use borrow.Author.Tests.{eq-eqb, ne-eqb, lt-ltb, le-ltb}
 use borrow.Author.Needs.{needs}
 use Rattle.report.proofs.is_ring_row.Statement.{statement}
@@ -11,28 +10,30 @@ returns c = simp (eq-eqb _ _ ((c .if1) .taken))
 returns-2 : tie.Need-returns-2
 returns-2 c = simp (lt-ltb _ _ ((c .if2) .taken), ne-eqb _ _ ((c .before .if1) .left))
 
-row-requires : tie.Need-row-requires
-row-requires c κs = search needs
-
-cast-face : tie.Need-cast-face
-cast-face c = search needs
-
 returns-3 : tie.Need-returns-3
-returns-3 c = simp (
-  le-ltb _ _ ((c .before .before .if2) .left),
-  ne-eqb _ _ ((c .before .before .before .if1) .left),
-  ← ((c .before .row) .ensures),
-  eq-eqb _ _ ((c .if3) .taken),
-)
+returns-3 c =
+    let at-row = c .before in
+    let at-if2 = at-row .before in
+    let at-if1 = at-if2 .before in
+    simp (
+      le-ltb _ _ (at-if2 .if2 .left),
+      ne-eqb _ _ (at-if1 .if1 .left),
+      ← (at-row .row .ensures),
+      eq-eqb _ _ (c .if3 .taken),
+    )
 
 returns-4 : tie.Need-returns-4
-returns-4 c = simp (
-  le-ltb _ _ ((c .before .before .if2) .left),
-  ne-eqb _ _ ((c .before .before .before .if1) .left),
-  ← ((c .before .row) .ensures),
-  ne-eqb _ _ ((c .if3) .left),
-)
+returns-4 c =
+    let at-row = c .before in
+    let at-if2 = at-row .before in
+    let at-if1 = at-if2 .before in
+    simp (
+      le-ltb _ _ (at-if2 .if2 .left),
+      ne-eqb _ _ (at-if1 .if1 .left),
+      ← (at-row .row .ensures),
+      ne-eqb _ _ (c .if3 .left),
+    )
 
 pub is-ring-row-spec : {M : Type 1} → statement M
 is-ring-row-spec =
-    tie.close (tie.spec returns returns-2 row-requires cast-face returns-3 returns-4)
+    tie.close (tie.spec returns returns-2 (λ c κs. search needs) (λ c. search needs) returns-3 returns-4)

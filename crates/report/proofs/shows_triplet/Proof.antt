@@ -1,19 +1,12 @@
 -- `report::shows_triplet` meets its contract: the layout of the header that was read, blank where the header is refused.
--- Assumes nothing.
 use borrow.Author.Needs.{needs}
 use Rattle.report.specs.Files.{showsTriplet}
 use Rattle.report.proofs.shows_triplet.Statement.{statement}
 use Rattle.report.proofs.shows_triplet.Tie as tie
-
-read-header-requires : tie.Need-read-header-requires
-read-header-requires c κs = search needs
-
-has-triplet-requires : tie.Need-has-triplet-requires
-has-triplet-requires c κs = search needs
 
 returns : tie.Need-returns
 unfolding showsTriplet
 returns c = simp (← c .has-triplet .ensures, ← c .before .before .read-header .ensures)
 
 pub shows-triplet-spec : {M : Type 1} → statement M
-shows-triplet-spec = tie.close (tie.spec read-header-requires has-triplet-requires returns)
+shows-triplet-spec = tie.close (tie.spec (λ c κs. search needs) (λ c κs. search needs) returns)

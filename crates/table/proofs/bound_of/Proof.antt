@@ -8,9 +8,6 @@ use borrow.Author.Needs.{needs}
 use Rattle.table.proofs.bound_of.Statement.{statement}
 use Rattle.table.proofs.bound_of.Tie as tie
 
-bound-by-requires : tie.Need-bound-by-requires
-bound-by-requires c κs = search needs
-
 returns : tie.Need-returns
 returns c =
     let s = (c .before .before .args) in
@@ -19,4 +16,4 @@ returns c =
     (c .bound-by) .ensures ∙ ap (boundBy (l .order) (s .index .now) (l .start) (l .width)) q ∙ bound-by (s .index .now) l (s .k)
 
 pub bound-of-spec : {M : Type 1} → statement M
-bound-of-spec = tie.close (tie.spec bound-by-requires returns)
+bound-of-spec = tie.close (tie.spec (λ c κs. search needs) returns)

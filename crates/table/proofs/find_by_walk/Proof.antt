@@ -5,16 +5,7 @@ use Rattle.table.proofs.RowLaws.{inside}
 use borrow.Author.Needs.{needs}
 use Rattle.table.proofs.find_by_walk.Statement.{statement}
 use Rattle.table.proofs.find_by_walk.Tie as tie
-use Rattle.table.proofs.find_by_walk.Reads as reads
-use Rattle.table.proofs.find_by_walk.Lts as lts
-use Rattle.table.proofs.count_columns.Reads as count-columns-reads
-use Rattle.table.proofs.judge_end.Reads as judge-end-reads
-use Rattle.table.proofs.judge_id.Reads as judge-id-reads
-use Rattle.table.proofs.kept_place.Reads as kept-place-reads
-use Rattle.table.proofs.slots_for.Reads as slots-for-reads
-use Rattle.table.proofs.walk.Reads as walk-reads
 
--- src/lib.rt:302:9
 slots-for-requires : tie.Need-slots-for-requires
 slots-for-requires c κs =
     let s = (c .before .args) in
@@ -22,53 +13,52 @@ slots-for-requires c κs =
     let b = column-there (s .layout) (s .column) ((c .before .pre) .1 .1 .1) in
     (a .0, a .1, b .0, b .1)
 
--- src/lib.rt:303:56
-count-columns-requires : tie.Need-count-columns-requires
-count-columns-requires c κs = search needs
-
--- src/lib.rt:303:9
 walk-requires : tie.Need-walk-requires
 walk-requires c κs =
-    let s = (c .before .before .before .args) in
-    let i = inside (s .file .now) (s .start) (s .end) ((c .before .before .before .pre) .1 .0) in
-    (i .0, i .1, omega (arith, (c .count-columns) .ensures))
+    let start = c .before .before .before in
+    let s = start .args in
+    let i = inside (s .file .now) (s .start) (s .end) (start .pre .1 .0) in
+    (i .0, i .1, omega (arith, c .count-columns .ensures))
 
--- src/lib.rt:306:68
 kept-place-requires : tie.Need-kept-place-requires
 kept-place-requires c κs =
-    let a = column-there ((c .before .before .before .before .before .args) .layout) ((c .before .before .before .before .before .args) .layout .id) ((c .before .before .before .before .before .pre) .1 .1 .0) in
+    let start = c .before .before .before .before .before in
+    let a = column-there (start .args .layout) (start .args .layout .id) (start .pre .1 .1 .0) in
     (a .0, a .1, search needs)
 
--- src/lib.rt:306:45
-judge-id-requires : tie.Need-judge-id-requires
-judge-id-requires c κs = search needs
-
--- src/lib.rt:306:9
-judge-end-requires : tie.Need-judge-end-requires
-judge-end-requires c κs = search needs
-
--- src/lib.rt:307:9
 kept-place-requires-2 : tie.Need-kept-place-requires-2
 kept-place-requires-2 c κs =
-    let a = column-there ((c .before .before .before .before .before .before .before .before .args) .layout) ((c .before .before .before .before .before .before .before .before .args) .column) ((c .before .before .before .before .before .before .before .before .pre) .1 .1 .1) in
+    let a =
+        column-there (c .before .before .before .before .before .before .before .before .args .layout)
+        (c .before .before .before .before .before .before .before .before .args .column)
+        (c .before .before .before .before .before .before .before .before .pre .1 .1 .1) in
     (a .0, a .1, search needs)
 
--- src/lib.rt:294:1
 returns : tie.Need-returns
 returns c =
-    let s = (c .before .before .before .before .before .before .before .before .before .args) in
-    by-walk (s .file .now) (s .layout) (s .start) (s .end) (s .row) (s .column) ((c .before .before .before .before .before .before .before .before .before .pre) .1 .1 .0) ((c .before .before .before .before .before .before .before .before .before .pre) .1 .1 .1) ((c .before .before .before .before .before .before .before .slots-for) .result) ((c .before .before .before .before .before .walk) .result) ((c .before .before .before .before .before .before .count-columns) .result) ((c .before .before .before .before .before .before .before .slots-for) .ensures) ((c .before .before .before .before .before .before .count-columns) .ensures)
-    ((c .before .before .before .before .before .walk) .ensures) _ _ _ _ ((c .before .before .before .before .before .before .before .before .before .pre) .0) ((c .before .before .before .kept-place) .ensures) ((c .kept-place2) .ensures) ((c .before .before .judge-id) .ensures) ((c .before .judge-end) .ensures) _ refl refl
+    let at-judge-end = c .before in
+    let at-judge-id = at-judge-end .before in
+    let at-kept-place = at-judge-id .before in
+    let at-walk = at-kept-place .before .before in
+    let at-count-columns = at-walk .before in
+    let at-slots-for = at-count-columns .before in
+    let start = at-slots-for .before .before in
+    let s = start .args in
+    by-walk (s .file .now) (s .layout) (s .start) (s .end) (s .row) (s .column) (start .pre .1 .1 .0) (start .pre .1 .1 .1)
+    (at-slots-for .slots-for .result) (at-walk .walk .result) (at-count-columns .count-columns .result) (at-slots-for .slots-for .ensures)
+    (at-count-columns .count-columns .ensures)
+    (at-walk .walk .ensures) _ _ _ _ (start .pre .0) (at-kept-place .kept-place .ensures) (c .kept-place2 .ensures) (at-judge-id .judge-id .ensures)
+    (at-judge-end .judge-end .ensures) _ refl refl
 
 pub find-by-walk-spec : {M : Type 1} → statement M
 find-by-walk-spec =
     tie.close
     (tie.spec
     slots-for-requires
-    count-columns-requires
+    (λ c κs. search needs)
     walk-requires
     kept-place-requires
-    judge-id-requires
-    judge-end-requires
+    (λ c κs. search needs)
+    (λ c κs. search needs)
     kept-place-requires-2
     returns)

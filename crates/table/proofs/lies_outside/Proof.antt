@@ -2,14 +2,10 @@ use borrow.Author.Needs.{needs}
 use borrow.Author.Tests.{le-ltb, lt-ltb}
 use Rattle.table.proofs.lies_outside.Statement.{statement}
 use Rattle.table.proofs.lies_outside.Tie as tie
-use Rattle.table.proofs.lies_outside.Reads as reads
-use Rattle.table.proofs.lies_outside.Lts as lts
 
--- src/lib.rt:109:9
 returns : tie.Need-returns
 returns c = simp (lt-ltb _ _ (c .if1 .taken))
 
--- src/lib.rt:105:1
 returns-2 : tie.Need-returns-2
 returns-2 c = simp (le-ltb _ _ (c .if1 .left))
 

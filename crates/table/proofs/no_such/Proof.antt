@@ -2,14 +2,10 @@ use borrow.Author.Needs.{needs}
 use borrow.Author.Tests.{eq-eqb, ne-eqb}
 use Rattle.table.proofs.no_such.Statement.{statement}
 use Rattle.table.proofs.no_such.Tie as tie
-use Rattle.table.proofs.no_such.Reads as reads
-use Rattle.table.proofs.no_such.Lts as lts
 
--- src/lib.rt:99:9
 returns : tie.Need-returns
 returns c = simp (eq-eqb _ _ (c .if1 .taken))
 
--- src/lib.rt:95:1
 returns-2 : tie.Need-returns-2
 returns-2 c = simp (ne-eqb _ _ (c .if1 .left))
 

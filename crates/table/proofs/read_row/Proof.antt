@@ -42,8 +42,15 @@ returns-2 c =
     let started = ended .before in
     let there = started .before .before in
     let start = there .before .before .before .before in
-    simp (sym (sub-one (start .args .row)), ← started .bound-of .ensures, ← ended .bound-of2 .ensures, ← judged .judge-row .ensures,
-      eq-eqb _ _ (c .if2 .taken), there .if1 .left, ← there .before .no-such-row .ensures)
+    simp (
+      sym (sub-one (start .args .row)),
+      ← started .bound-of .ensures,
+      ← ended .bound-of2 .ensures,
+      ← judged .judge-row .ensures,
+      eq-eqb _ _ (c .if2 .taken),
+      there .if1 .left,
+      ← there .before .no-such-row .ensures,
+    )
 
 returns-3 : tie.Need-returns-3
 unfolding rowOf
@@ -53,8 +60,15 @@ returns-3 c =
     let started = ended .before in
     let there = started .before .before in
     let start = there .before .before .before .before in
-    simp (sym (sub-one (start .args .row)), ← started .bound-of .ensures, ← ended .bound-of2 .ensures, ← judged .judge-row .ensures,
-      ne-eqb _ _ (c .if2 .left), there .if1 .left, ← there .before .no-such-row .ensures)
+    simp (
+      sym (sub-one (start .args .row)),
+      ← started .bound-of .ensures,
+      ← ended .bound-of2 .ensures,
+      ← judged .judge-row .ensures,
+      ne-eqb _ _ (c .if2 .left),
+      there .if1 .left,
+      ← there .before .no-such-row .ensures,
+    )
 
 pub read-row-spec : {M : Type 1} → statement M
 read-row-spec =

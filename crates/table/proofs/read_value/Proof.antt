@@ -18,8 +18,14 @@ unfolding valueOf
 returns-2 c =
     let counted = c .before .before .before in
     let there = counted .before .before in
-    simp (← c .refuse2 .ensures, c .before .if2 .taken, ← c .before .before .no-such .ensures, ← counted .count-columns .ensures,
-      there .if1 .left, ← there .before .no-such-row .ensures)
+    simp (
+      ← c .refuse2 .ensures,
+      c .before .if2 .taken,
+      ← c .before .before .no-such .ensures,
+      ← counted .count-columns .ensures,
+      there .if1 .left,
+      ← there .before .no-such-row .ensures,
+    )
 
 -- the row is one of the table's, so that the row before it has an end too
 sub-bound-of : tie.Need-sub-bound-of
@@ -48,7 +54,7 @@ value-between-requires c κs =
     let counted = c .before .before .before .before in
     let start = counted .before .before .before .before .before .before in
     let h : noSuchColumn (start .args .table .layout) (start .args .column) ≡ false =
-        rw (← counted .count-columns .ensures, ← c .before .before .before .no-such .ensures) (c .before .before .if2 .left) in
+    rw (← counted .count-columns .ensures, ← c .before .before .before .no-such .ensures) (c .before .before .if2 .left) in
     h
 
 returns-3 : tie.Need-returns-3
@@ -59,8 +65,16 @@ returns-3 c =
     let counted = started .before .before .before in
     let there = counted .before .before in
     let start = there .before .before .before .before in
-    simp (sym (sub-one (start .args .row)), ← started .bound-of .ensures, ← ended .bound-of2 .ensures, started .before .if2 .left,
-      ← started .before .before .no-such .ensures, ← counted .count-columns .ensures, there .if1 .left, ← there .before .no-such-row .ensures)
+    simp (
+      sym (sub-one (start .args .row)),
+      ← started .bound-of .ensures,
+      ← ended .bound-of2 .ensures,
+      started .before .if2 .left,
+      ← started .before .before .no-such .ensures,
+      ← counted .count-columns .ensures,
+      there .if1 .left,
+      ← there .before .no-such-row .ensures,
+    )
     (c .value-between .ensures)
 
 pub read-value-spec : {M : Type 1} → statement M

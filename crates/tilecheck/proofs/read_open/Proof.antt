@@ -11,7 +11,12 @@ add-result c =
     let at-read-whole2 = at-more .before .before .before in
     let at-n = at-read-whole2 .before .before .before .before in
     let at-read-whole = at-n .before .before .before .before in
-    omega (arith, given-within _ _ _ (at-n .n .given .1) (at-read-whole .read-whole .ensures), given-within _ _ _ (at-more .more .given .1) (at-read-whole2 .read-whole2 .ensures))
+    omega (
+      arith,
+      given-within _ _ _ (at-n .n .given .1) (at-read-whole .read-whole .ensures),
+      given-within _ _ _ (at-more .more .given .1)
+          (at-read-whole2 .read-whole2 .ensures),
+    )
 
 returns-4 : tie.Need-returns-4
 returns-4 c =
@@ -19,7 +24,12 @@ returns-4 c =
     let at-read-whole2 = at-more .before .before .before in
     let at-n = at-read-whole2 .before .before .before .before in
     let at-read-whole = at-n .before .before .before .before in
-    omega (arith, given-within _ _ _ (at-n .n .given .1) (at-read-whole .read-whole .ensures), given-within _ _ _ (at-more .more .given .1) (at-read-whole2 .read-whole2 .ensures))
+    omega (
+      arith,
+      given-within _ _ _ (at-n .n .given .1) (at-read-whole .read-whole .ensures),
+      given-within _ _ _ (at-more .more .given .1)
+          (at-read-whole2 .read-whole2 .ensures),
+    )
 
 pub read-open-spec : {M : Type 1} → statement M
 read-open-spec =

@@ -1,5 +1,4 @@
 -- `triplet::code_for` meets its contract: each answer is the branch of `codeFor` with the tests that led to it.
--- Assumes nothing.
 use borrow.Author.Needs.{needs}
 use borrow.Author.Tests.{eq-eqb, le-ltb, lt-ltb, ne-eqb}
 use Rattle.triplet.proofs.code_for.Statement.{statement}

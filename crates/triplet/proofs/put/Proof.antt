@@ -1,5 +1,4 @@
 -- `triplet::put` meets its contract: the type byte and the three parts, written one after the other, are the encoded triplet before the rest of what was lent.
--- Assumes nothing.
 use lib.ListN.{length-set}
 use native.Mathlib.Omega.{arith}
 use mathlib.Core.Path.{_∙_}
@@ -9,55 +8,42 @@ use borrow.Author.Needs.{needs}
 use Rattle.triplet.proofs.put.Statement.{statement}
 use Rattle.triplet.proofs.put.Tie as tie
 
-width-for-requires : tie.Need-width-for-requires
-width-for-requires c κs = search needs
-
-add-p2 : tie.Need-add-p2
-add-p2 c = search needs
-
-width-for-requires-2 : tie.Need-width-for-requires-2
-width-for-requires-2 c κs = search needs
-
-add-p3 : tie.Need-add-p3
-add-p3 c = search needs
-
-type-byte-requires : tie.Need-type-byte-requires
-type-byte-requires c κs = search needs
-
 slice-write-s : tie.Need-slice-write-s
 unfolding sizeOf
 slice-write-s c = omega (arith, (c .before .before .before .before .pre))
 
-put-part-requires : tie.Need-put-part-requires
-put-part-requires c κs = search needs
-
-put-part-requires-2 : tie.Need-put-part-requires-2
-put-part-requires-2 c κs = search needs
-
-put-part-requires-3 : tie.Need-put-part-requires-3
-put-part-requires-3 c κs = search needs
-
 same-length : tie.Need-same-length
-same-length c = (c .before .before .put-part3) .kept .0 ∙ ((c .before .before .before .before .before .before .put-part2) .kept .0 ∙ (simp length-set at ((c .before .before .before .before .before .before .before .before .before .before .put-part) .kept .0)))
+same-length c =
+    let at-put-part3 = c .before .before in
+    let at-put-part2 = at-put-part3 .before .before .before .before in
+    let at-put-part = at-put-part2 .before .before .before .before in
+    (at-put-part3 .put-part3) .kept .0 ∙ (at-put-part2 .put-part2 .kept .0 ∙ (simp length-set at (at-put-part .put-part .kept .0)))
 
 returns : tie.Need-returns
 returns c =
-    encoded-by ((c .before .before .before .before .before .before .before .before .before .before .before .before .before .before .before .before .args) .order) ((c .before .before .before .before .before .before .before .before .before .before .before .before .before .before .before .before .args) .ids) ((c .before .before .before .before .before .before .before .before .before .before .before .before .before .before .before .before .args) .s .now) _ _ _ _ _ _
-    (c .before .before .before .before .before .before .before .before .before .before .before .before .before .before .before .before .pre) ((c .before .before .before .before .before .before .before .before .before .before .before .before .type-byte) .ensures) ((c .before .before .before .before .before .before .before .before .before .before .before .before .before .before .width-for) .ensures .0) ((c .before .before .before .before .before .before .before .before .before .before .before .before .before .width-for2) .ensures .0)
-    ((c .before .before .before .before .before .before .before .before .before .before .put-part) .ensures) ((c .before .before .before .before .before .before .put-part2) .ensures) ((c .before .before .put-part3) .ensures)
+    let at-put-part3 = c .before .before in
+    let at-put-part2 = at-put-part3 .before .before .before .before in
+    let at-put-part = at-put-part2 .before .before .before .before in
+    let at-type-byte = at-put-part .before .before in
+    let at-width-for2 = at-type-byte .before in
+    let at-width-for = at-width-for2 .before in
+    let start = at-width-for .before .before in
+    encoded-by (start .args .order) (start .args .ids) (start .args .s .now) _ _ _ _ _ _
+    (start .pre) (at-type-byte .type-byte .ensures) (at-width-for .width-for .ensures .0) (at-width-for2 .width-for2 .ensures .0)
+    (at-put-part .put-part .ensures) (at-put-part2 .put-part2 .ensures) (at-put-part3 .put-part3 .ensures)
 
 pub put-spec : {M : Type 1} → statement M
 put-spec =
     tie.close
     (tie.spec
-    width-for-requires
-    add-p2
-    width-for-requires-2
-    add-p3
-    type-byte-requires
+    (λ c κs. search needs)
+    (λ c. search needs)
+    (λ c κs. search needs)
+    (λ c. search needs)
+    (λ c κs. search needs)
     slice-write-s
-    put-part-requires
-    put-part-requires-2
-    put-part-requires-3
+    (λ c κs. search needs)
+    (λ c κs. search needs)
+    (λ c κs. search needs)
     same-length
     returns)

@@ -1,5 +1,4 @@
 -- `triplet::width_of` meets its contract: each answer is the branch of `widthOf`.
--- Assumes nothing.
 use borrow.Author.Needs.{needs}
 use borrow.Author.Tests.{eq-eqb, ne-eqb}
 use Rattle.triplet.proofs.width_of.Statement.{statement}

@@ -5,25 +5,12 @@ use borrow.Author.Tests.{le-ltb, lt-ltb}
 use Rattle.wave.proofs.finish.Statement.{statement}
 use Rattle.wave.proofs.finish.Tie as tie
 
-enum-known-st : tie.Need-enum-known-st
-enum-known-st c = search needs
-
 mul-t11 : tie.Need-mul-t11
 mul-t11 c =
-    let f = rw (c .before .before .st .given .1) at (c .before .before .before .before .pre) in
+    let at-st = c .before .before in
+    let start = at-st .before .before in
+    let f = rw (at-st .st .given .1) at (start .pre) in
     omega (arith, f .1, ten-room _ (f .0))
-
-refuse-requires : tie.Need-refuse-requires
-refuse-requires c κs = search needs
-
-enum-known-st-2 : tie.Need-enum-known-st-2
-enum-known-st-2 c = search needs
-
-refuse-requires-2 : tie.Need-refuse-requires-2
-refuse-requires-2 c κs = search needs
-
-enum-known-st-3 : tie.Need-enum-known-st-3
-enum-known-st-3 c = search needs
 
 returns : tie.Need-returns
 returns c = simp (lt-ltb _ _ (c .if1 .taken), c .before .before .st .given .1)
@@ -44,12 +31,12 @@ pub finish-spec : {M : Type 1} → statement M
 finish-spec =
     tie.close
     (tie.spec
-    enum-known-st
+    (λ c. search needs)
     mul-t11
-    refuse-requires
-    enum-known-st-2
-    refuse-requires-2
-    enum-known-st-3
+    (λ c κs. search needs)
+    (λ c. search needs)
+    (λ c κs. search needs)
+    (λ c. search needs)
     returns
     returns-2
     returns-3

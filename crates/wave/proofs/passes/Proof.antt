@@ -5,35 +5,42 @@ use Rattle.wave.specs.Judgement.{judgementOf}
 use Rattle.wave.proofs.passes.Statement.{statement}
 use Rattle.wave.proofs.passes.Tie as tie
 
-thousandths-requires : tie.Need-thousandths-requires
-thousandths-requires c κs = search needs
-
-enum-known-most : tie.Need-enum-known-most
-enum-known-most c = search needs
-
-thousandths-requires-2 : tie.Need-thousandths-requires-2
-thousandths-requires-2 c κs = search needs
-
-enum-known-seen : tie.Need-enum-known-seen
-enum-known-seen c = search needs
-
-enum-known-bad : tie.Need-enum-known-bad
-enum-known-bad c = search needs
-
-enum-known-bad-2 : tie.Need-enum-known-bad-2
-enum-known-bad-2 c = search needs
-
 returns : tie.Need-returns
 unfolding judgementOf
-returns c = simp (le-leb _ _ (c .if1 .taken), sym (c .before .before .before .before .thousandths2 .ensures) ∙ c .before .before .seen .given .1, sym (c .before .before .before .before .before .before .before .before .thousandths .ensures) ∙ c .before .before .before .before .before .before .most .given .1)
+returns c =
+    let at-seen = c .before .before in
+    let at-thousandths2 = at-seen .before .before in
+    let at-most = at-thousandths2 .before .before in
+    let at-thousandths = at-most .before .before in
+    simp (
+      le-leb _ _ (c .if1 .taken),
+      sym (at-thousandths2 .thousandths2 .ensures) ∙ at-seen .seen .given .1,
+      sym
+          (at-thousandths .thousandths .ensures) ∙ at-most .most .given .1,
+    )
 
 returns-2 : tie.Need-returns-2
 unfolding judgementOf
-returns-2 c = simp (lt-leb _ _ (c .if1 .left), sym (c .before .before .before .before .thousandths2 .ensures) ∙ c .before .before .seen .given .1, sym (c .before .before .before .before .before .before .before .before .thousandths .ensures) ∙ c .before .before .before .before .before .before .most .given .1)
+returns-2 c =
+    let at-seen = c .before .before in
+    let at-thousandths2 = at-seen .before .before in
+    let at-most = at-thousandths2 .before .before in
+    let at-thousandths = at-most .before .before in
+    simp (
+      lt-leb _ _ (c .if1 .left),
+      sym (at-thousandths2 .thousandths2 .ensures) ∙ at-seen .seen .given .1,
+      sym
+          (at-thousandths .thousandths .ensures) ∙ at-most .most .given .1,
+    )
 
 returns-3 : tie.Need-returns-3
 unfolding judgementOf
-returns-3 c = simp (sym (c .before .before .before .thousandths2 .ensures) ∙ c .before .bad .given .1, sym (c .before .before .before .before .before .before .before .thousandths .ensures) ∙ c .before .before .before .before .before .most .given .1)
+returns-3 c =
+    let at-bad = c .before in
+    let at-thousandths2 = at-bad .before .before in
+    let at-most = at-thousandths2 .before .before in
+    let at-thousandths = at-most .before .before in
+    simp (sym (at-thousandths2 .thousandths2 .ensures) ∙ at-bad .bad .given .1, sym (at-thousandths .thousandths .ensures) ∙ at-most .most .given .1)
 
 returns-4 : tie.Need-returns-4
 unfolding judgementOf
@@ -43,12 +50,12 @@ pub passes-spec : {M : Type 1} → statement M
 passes-spec =
     tie.close
     (tie.spec
-    thousandths-requires
-    enum-known-most
-    thousandths-requires-2
-    enum-known-seen
-    enum-known-bad
-    enum-known-bad-2
+    (λ c κs. search needs)
+    (λ c. search needs)
+    (λ c κs. search needs)
+    (λ c. search needs)
+    (λ c. search needs)
+    (λ c. search needs)
     returns
     returns-2
     returns-3

@@ -5,91 +5,60 @@ use borrow.Author.Tests.{le-ltb, lt-ltb}
 use Rattle.wave.proofs.step_by.Statement.{statement}
 use Rattle.wave.proofs.step_by.Tie as tie
 
-enum-known-st : tie.Need-enum-known-st
-enum-known-st c = search needs
-
-enum-known-k : tie.Need-enum-known-k
-enum-known-k c = search needs
-
-add-t14 : tie.Need-add-t14
-add-t14 c = search needs
-
 mul-t15 : tie.Need-mul-t15
 mul-t15 c =
-    let f = rw (c .before .before .before .before .before .st .given .1) at (c .before .before .before .before .before .before .before .pre .0) in
+    let at-st = c .before .before .before .before .before in
+    let start = at-st .before .before in
+    let f = rw (at-st .st .given .1) at (start .pre .0) in
     omega (arith, f .1, ten-next _ (c .if1 .taken))
 
 add-t16 : tie.Need-add-t16
 add-t16 c =
-    let f = rw (c .before .before .before .before .before .st .given .1) at (c .before .before .before .before .before .before .before .pre .0) in
-    let s = rw (c .before .before .k .given .1) at (c .before .before .before .before .before .before .before .pre .1) in
+    let at-k = c .before .before in
+    let at-st = at-k .before .before .before in
+    let start = at-st .before .before in
+    let f = rw (at-st .st .given .1) at (start .pre .0) in
+    let s = rw (at-k .k .given .1) at (start .pre .1) in
     omega (arith, f .1, s, ten-next _ (c .if1 .taken))
-
-enum-told : tie.Need-enum-told
-enum-told c = search needs
 
 mul-t20 : tie.Need-mul-t20
 mul-t20 c =
-    let f = rw (c .before .before .before .before .st .given .1) at (c .before .before .before .before .before .before .pre .0) in
+    let at-st = c .before .before .before .before in
+    let start = at-st .before .before in
+    let f = rw (at-st .st .given .1) at (start .pre .0) in
     omega (arith, f .1, ten-room _ (f .0))
-
-enum-told-2 : tie.Need-enum-told-2
-enum-told-2 c = search needs
 
 mul-t24 : tie.Need-mul-t24
 mul-t24 c =
-    let f = rw (c .before .before .before .before .st .given .1) at (c .before .before .before .before .before .before .pre .0) in
+    let at-st = c .before .before .before .before in
+    let start = at-st .before .before in
+    let f = rw (at-st .st .given .1) at (start .pre .0) in
     omega (arith, f .1, ten-room _ (f .0))
 
-enum-told-3 : tie.Need-enum-told-3
-enum-told-3 c = search needs
-
-enum-known-st-2 : tie.Need-enum-known-st-2
-enum-known-st-2 c = search needs
-
-enum-known-k-2 : tie.Need-enum-known-k-2
-enum-known-k-2 c = search needs
-
-add-t29 : tie.Need-add-t29
-add-t29 c = search needs
-
 worth-requires : tie.Need-worth-requires
-worth-requires c κs = rw (c .before .before .k2 .given .1) at (c .before .before .before .before .before .before .before .pre .1)
+worth-requires c κs =
+    let at-k2 = c .before .before in
+    let start = at-k2 .before .before .before .before .before in
+    rw (at-k2 .k2 .given .1) at (start .pre .1)
 
 add-t31 : tie.Need-add-t31
 add-t31 c =
-    let f = rw (c .before .before .before .before .before .before .st2 .given .1) at (c .before .before .before .before .before .before .before .before .pre .0) in
+    let at-st2 = c .before .before .before .before .before .before in
+    let start = at-st2 .before .before in
+    let f = rw (at-st2 .st2 .given .1) at (start .pre .0) in
     omega (arith, f .0, f .1)
 
-enum-told-4 : tie.Need-enum-told-4
-enum-told-4 c = search needs
-
-enum-told-5 : tie.Need-enum-told-5
-enum-told-5 c = search needs
-
-enum-told-6 : tie.Need-enum-told-6
-enum-told-6 c = search needs
-
-enum-known-st-3 : tie.Need-enum-known-st-3
-enum-known-st-3 c = search needs
-
-enum-told-7 : tie.Need-enum-told-7
-enum-told-7 c = search needs
-
-enum-told-8 : tie.Need-enum-told-8
-enum-told-8 c = search needs
-
-enum-told-9 : tie.Need-enum-told-9
-enum-told-9 c = search needs
-
-enum-told-10 : tie.Need-enum-told-10
-enum-told-10 c = search needs
-
 returns : tie.Need-returns
-returns c = simp (lt-ltb _ _ (c .if1 .taken), c .before .before .k .given .1, c .before .before .before .before .before .st .given .1)
+returns c =
+    let at-k = c .before .before in
+    let at-st = at-k .before .before .before in
+    simp (lt-ltb _ _ (c .if1 .taken), at-k .k .given .1, at-st .st .given .1)
 
 returns-2 : tie.Need-returns-2
-returns-2 c = simp (le-ltb _ _ (c .if1 .left), c .before .before .k .given .1, c .before .before .before .before .before .st .given .1)
+returns-2 c =
+    let at-k = c .before .before in
+    let at-st = at-k .before .before .before in
+    simp (le-ltb _ _ (c .if1 .left), at-k .k .given .1, at-st .st .given .1)
 
 returns-3 : tie.Need-returns-3
 returns-3 c = simp (lt-ltb _ _ (c .if2 .taken), c .before .enum-told .given .1, c .before .before .before .before .st .given .1)
@@ -107,10 +76,17 @@ returns-7 : tie.Need-returns-7
 returns-7 c = simp (c .enum-told3 .given .1, c .before .before .before .st .given .1)
 
 returns-8 : tie.Need-returns-8
-returns-8 c = simp (c .worth .ensures .0, lt-ltb _ _ (c .before .if4 .taken), c .before .before .before .k2 .given .1, c .before .before .before .before .before .before .st2 .given .1)
+returns-8 c =
+    let at-if4 = c .before in
+    let at-k2 = at-if4 .before .before in
+    let at-st2 = at-k2 .before .before .before in
+    simp (c .worth .ensures .0, lt-ltb _ _ (at-if4 .if4 .taken), at-k2 .k2 .given .1, at-st2 .st2 .given .1)
 
 returns-9 : tie.Need-returns-9
-returns-9 c = simp (le-ltb _ _ (c .if4 .left), c .before .before .k2 .given .1, c .before .before .before .before .before .st2 .given .1)
+returns-9 c =
+    let at-k2 = c .before .before in
+    let at-st2 = at-k2 .before .before .before in
+    simp (le-ltb _ _ (c .if4 .left), at-k2 .k2 .given .1, at-st2 .st2 .given .1)
 
 returns-10 : tie.Need-returns-10
 returns-10 c = simp (c .enum-told4 .given .1, c .before .before .before .st2 .given .1)
@@ -140,29 +116,29 @@ pub step-by-spec : {M : Type 1} → statement M
 step-by-spec =
     tie.close
     (tie.spec
-    enum-known-st
-    enum-known-k
-    add-t14
+    (λ c. search needs)
+    (λ c. search needs)
+    (λ c. search needs)
     mul-t15
     add-t16
-    enum-told
+    (λ c. search needs)
     mul-t20
-    enum-told-2
+    (λ c. search needs)
     mul-t24
-    enum-told-3
-    enum-known-st-2
-    enum-known-k-2
-    add-t29
+    (λ c. search needs)
+    (λ c. search needs)
+    (λ c. search needs)
+    (λ c. search needs)
     worth-requires
     add-t31
-    enum-told-4
-    enum-told-5
-    enum-told-6
-    enum-known-st-3
-    enum-told-7
-    enum-told-8
-    enum-told-9
-    enum-told-10
+    (λ c. search needs)
+    (λ c. search needs)
+    (λ c. search needs)
+    (λ c. search needs)
+    (λ c. search needs)
+    (λ c. search needs)
+    (λ c. search needs)
+    (λ c. search needs)
     returns
     returns-2
     returns-3

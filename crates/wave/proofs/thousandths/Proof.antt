@@ -24,43 +24,30 @@ abbrev μ-loop : tie.MeasureT-loop
 loop-holds : tie.Need-loop-holds Inv-loop μ-loop
 loop-holds c = (search needs, (search needs, search needs), refl)
 
-shared-slice-read-kind-of : tie.Need-shared-slice-read-kind-of Inv-loop μ-loop
-shared-slice-read-kind-of c = search needs
-
-kind-of-requires : tie.Need-kind-of-requires Inv-loop μ-loop
-kind-of-requires c κs = search needs
-
 step-by-requires : tie.Need-step-by-requires Inv-loop μ-loop
-step-by-requires c κs = ((c .before .before .before .loop) .inv .1, rw (c .kind-of .ensures) (one-digit (getD ((c .before .before .before .before .before .args) .text .now) ((c .before .before .before .loop) .i) 0)))
-
-enum-known-next : tie.Need-enum-known-next Inv-loop μ-loop
-enum-known-next c = search needs
-
-enum-told : tie.Need-enum-told Inv-loop μ-loop
-enum-told c = search needs
-
-refuse-requires : tie.Need-refuse-requires Inv-loop μ-loop
-refuse-requires c κs = search needs
+step-by-requires c κs =
+    let at-loop = c .before .before .before in
+    let start = at-loop .before .before in
+    (at-loop .loop .inv .1, rw (c .kind-of .ensures) (one-digit (getD (start .args .text .now) (at-loop .loop .i) 0)))
 
 returns : tie.Need-returns Inv-loop μ-loop
 unfolding heightOf
 returns c =
-    let l = (c .before .before .before .before .before .before .before .loop) in
-    let s = (c .before .before .before .before .before .before .before .before .before .args) .text .now in
+    let at-loop = c .before .before .before .before .before .before .before in
+    let start = at-loop .before .before in
+    let l = at-loop .loop in
+    let s = start .args .text .now in
     let e : stepOf (l .st) (kindOf (getD s (l .i) 0)) ≡ Stop = cc in
     ap (λ (r : Refusal). Refused r) (c .refuse .ensures) ∙ ap (answer (length s)) (sym (run-stop machine s (l .st) (l .i) (search needs) (ap nextOf e)) ∙ l .inv .2)
 
-add-i : tie.Need-add-i Inv-loop μ-loop
-add-i c = search needs
-
-loop-less : tie.Need-loop-less Inv-loop μ-loop
-loop-less c = search needs
-
 loop-again : tie.Need-loop-again Inv-loop μ-loop
 loop-again c =
-    let l = (c .before .before .before .before .before .before .before .loop) in
-    let s = (c .before .before .before .before .before .before .before .before .before .args) .text .now in
-    let n = c .before .next .given .0 .0 in
+    let at-next = c .before in
+    let at-loop = at-next .before .before .before .before .before .before in
+    let start = at-loop .before .before in
+    let l = at-loop .loop in
+    let s = start .args .text .now in
+    let n = at-next .next .given .0 .0 in
     let e : stepOf (l .st) (kindOf (getD s (l .i) 0)) ≡ Go n = cc in (
       search needs,
       rw e at (roomy-step (l .st) (kindOf (getD s (l .i) 0)) (l .inv .1) (one-digit (getD s (l .i) 0))),
@@ -73,8 +60,10 @@ finish-requires c κs = (c .before .loop) .inv .1
 returns-2 : tie.Need-returns-2 Inv-loop μ-loop
 unfolding heightOf
 returns-2 c =
-    let l = (c .before .before .loop) in
-    let s = (c .before .before .before .before .args) .text .now in
+    let at-loop = c .before .before in
+    let start = at-loop .before .before in
+    let l = at-loop .loop in
+    let s = start .args .text .now in
     let e : l .i ≡ length s = omega arith in
     c .finish .ensures ∙ rw e (ap (answer (length s)) (sym (run-end machine s (l .st) (l .i) (search needs)) ∙ l .inv .2))
 
@@ -85,15 +74,15 @@ thousandths-spec =
     Inv-loop
     μ-loop
     loop-holds
-    shared-slice-read-kind-of
-    kind-of-requires
+    (λ c. search needs)
+    (λ c κs. search needs)
     step-by-requires
-    enum-known-next
-    enum-told
-    refuse-requires
+    (λ c. search needs)
+    (λ c. search needs)
+    (λ c κs. search needs)
     returns
-    add-i
-    loop-less
+    (λ c. search needs)
+    (λ c. search needs)
     loop-again
     finish-requires
     returns-2)

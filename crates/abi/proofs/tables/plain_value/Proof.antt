@@ -3,88 +3,6 @@ use mir.Facts.{toZ-ofZ}
 use borrow.Author.Needs.{needs, sfits-of}
 use Rattle.abi.proofs.tables.plain_value.Statement.{statement}
 use Rattle.abi.proofs.tables.plain_value.Tie as tie
-use Rattle.abi.proofs.tables.plain_value.Reads as reads
-use Rattle.abi.proofs.tables.plain_value.Lts as lts
-use Rattle.abi.proofs.tables.part_of.Reads as part-of-reads
-use Rattle.abi.proofs.tables.pattern_of.Reads as pattern-of-reads
-
-enum-known-v : tie.Need-enum-known-v
-enum-known-v c = search needs
-
-enum-told : tie.Need-enum-told
-enum-told c = search needs
-
-part-of-requires : tie.Need-part-of-requires
-part-of-requires c κs = search needs
-
-enum-known-v-2 : tie.Need-enum-known-v-2
-enum-known-v-2 c = search needs
-
-enum-told-2 : tie.Need-enum-told-2
-enum-told-2 c = search needs
-
-part-of-requires-2 : tie.Need-part-of-requires-2
-part-of-requires-2 c κs = search needs
-
-enum-known-v-3 : tie.Need-enum-known-v-3
-enum-known-v-3 c = search needs
-
-cast-pattern-of : tie.Need-cast-pattern-of
-cast-pattern-of c = search needs
-
-pattern-of-requires : tie.Need-pattern-of-requires
-pattern-of-requires c κs = search needs
-
-enum-known-v-4 : tie.Need-enum-known-v-4
-enum-known-v-4 c = search needs
-
-cast-pattern-of-2 : tie.Need-cast-pattern-of-2
-cast-pattern-of-2 c = search needs
-
-pattern-of-requires-2 : tie.Need-pattern-of-requires-2
-pattern-of-requires-2 c κs = search needs
-
-enum-known-v-5 : tie.Need-enum-known-v-5
-enum-known-v-5 c = search needs
-
-pattern-of-requires-3 : tie.Need-pattern-of-requires-3
-pattern-of-requires-3 c κs = search needs
-
-enum-known-v-6 : tie.Need-enum-known-v-6
-enum-known-v-6 c = search needs
-
-pattern-of-requires-4 : tie.Need-pattern-of-requires-4
-pattern-of-requires-4 c κs = search needs
-
-enum-known-v-7 : tie.Need-enum-known-v-7
-enum-known-v-7 c = search needs
-
-enum-known-v-8 : tie.Need-enum-known-v-8
-enum-known-v-8 c = search needs
-
-part-of-requires-3 : tie.Need-part-of-requires-3
-part-of-requires-3 c κs = search needs
-
-enum-known-v-9 : tie.Need-enum-known-v-9
-enum-known-v-9 c = search needs
-
-part-of-requires-4 : tie.Need-part-of-requires-4
-part-of-requires-4 c κs = search needs
-
-enum-known-v-10 : tie.Need-enum-known-v-10
-enum-known-v-10 c = search needs
-
-part-of-requires-5 : tie.Need-part-of-requires-5
-part-of-requires-5 c κs = search needs
-
-enum-told-3 : tie.Need-enum-told-3
-enum-told-3 c = search needs
-
-part-of-requires-6 : tie.Need-part-of-requires-6
-part-of-requires-6 c κs = search needs
-
-enum-known-v-11 : tie.Need-enum-known-v-11
-enum-known-v-11 c = search needs
 
 returns : tie.Need-returns
 returns c = simp (c .before .v .given .1, toZ-ofZ {w = w16} {z = c .before .v .given .0 .0} (sfits-of {w = w16} (c .known-told .given .0 .1)))
@@ -132,32 +50,32 @@ pub plain-value-spec : {M : Type 1} → statement M
 plain-value-spec =
     tie.close
     (tie.spec
-    enum-known-v
-    enum-told
-    part-of-requires
-    enum-known-v-2
-    enum-told-2
-    part-of-requires-2
-    enum-known-v-3
-    cast-pattern-of
-    pattern-of-requires
-    enum-known-v-4
-    cast-pattern-of-2
-    pattern-of-requires-2
-    enum-known-v-5
-    pattern-of-requires-3
-    enum-known-v-6
-    pattern-of-requires-4
-    enum-known-v-7
-    enum-known-v-8
-    part-of-requires-3
-    enum-known-v-9
-    part-of-requires-4
-    enum-known-v-10
-    part-of-requires-5
-    enum-told-3
-    part-of-requires-6
-    enum-known-v-11
+    (λ c. search needs)
+    (λ c. search needs)
+    (λ c κs. search needs)
+    (λ c. search needs)
+    (λ c. search needs)
+    (λ c κs. search needs)
+    (λ c. search needs)
+    (λ c. search needs)
+    (λ c κs. search needs)
+    (λ c. search needs)
+    (λ c. search needs)
+    (λ c κs. search needs)
+    (λ c. search needs)
+    (λ c κs. search needs)
+    (λ c. search needs)
+    (λ c κs. search needs)
+    (λ c. search needs)
+    (λ c. search needs)
+    (λ c κs. search needs)
+    (λ c. search needs)
+    (λ c κs. search needs)
+    (λ c. search needs)
+    (λ c κs. search needs)
+    (λ c. search needs)
+    (λ c κs. search needs)
+    (λ c. search needs)
     returns
     returns-2
     returns-3

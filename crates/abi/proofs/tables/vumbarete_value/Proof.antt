@@ -2,47 +2,31 @@ use borrow.Author.Needs.{needs}
 use Rattle.abi.specs.PlainTables.{valueIn}
 use Rattle.abi.proofs.tables.vumbarete_value.Statement.{statement}
 use Rattle.abi.proofs.tables.vumbarete_value.Tie as tie
-use Rattle.abi.proofs.tables.vumbarete_value.Reads as reads
-use Rattle.abi.proofs.tables.vumbarete_value.Lts as lts
-use Rattle.abi.proofs.tables.plain_value.Reads as plain-value-reads
-use Rattle.opening.proofs.open_table.Reads as open-table-reads
-use Rattle.table.proofs.read_value.Reads as read-value-reads
-
-open-table-requires : tie.Need-open-table-requires
-open-table-requires c κs = search needs
-
-enum-told : tie.Need-enum-told
-enum-told c = search needs
-
-read-value-requires : tie.Need-read-value-requires
-read-value-requires c κs = search needs
-
-plain-value-requires : tie.Need-plain-value-requires
-plain-value-requires c κs = search needs
-
-enum-known-answer : tie.Need-enum-known-answer
-enum-known-answer c = search needs
-
-plain-value-requires-2 : tie.Need-plain-value-requires-2
-plain-value-requires-2 c κs = search needs
 
 returns : tie.Need-returns
 unfolding valueIn
-returns c = simp (← c .plain-value .ensures, ← c .before .read-value .ensures, ← c .before .before .before .before .before .open-table .ensures, c .before .before .before .enum-told .given .1)
+returns c =
+    let at-read-value = c .before in
+    let at-enum-told = at-read-value .before .before in
+    let at-open-table = at-enum-told .before .before in
+    simp (← c .plain-value .ensures, ← at-read-value .read-value .ensures, ← at-open-table .open-table .ensures, at-enum-told .enum-told .given .1)
 
 returns-2 : tie.Need-returns-2
 unfolding valueIn
-returns-2 c = simp (← c .plain-value2 .ensures, ← c .before .before .before .before .open-table .ensures, c .before .before .answer .given .1)
+returns-2 c =
+    let at-answer = c .before .before in
+    let at-open-table = at-answer .before .before in
+    simp (← c .plain-value2 .ensures, ← at-open-table .open-table .ensures, at-answer .answer .given .1)
 
 pub vumbarete-value-spec : {M : Type 1} → statement M
 vumbarete-value-spec =
     tie.close
     (tie.spec
-    open-table-requires
-    enum-told
-    read-value-requires
-    plain-value-requires
-    enum-known-answer
-    plain-value-requires-2
+    (λ c κs. search needs)
+    (λ c. search needs)
+    (λ c κs. search needs)
+    (λ c κs. search needs)
+    (λ c. search needs)
+    (λ c κs. search needs)
     returns
     returns-2)

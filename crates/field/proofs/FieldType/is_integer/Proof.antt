@@ -2,11 +2,8 @@ use borrow.Author.Needs.{needs}
 use Rattle.field.proofs.FieldType.is_integer.Statement.{statement}
 use Rattle.field.proofs.FieldType.is_integer.Tie as tie
 
-letter-requires : tie.Need-letter-requires
-letter-requires c κs = search needs
-
 returns : tie.Need-returns
 returns c = simp (← c .letter .ensures)
 
 pub is-integer-spec : {M : Type 1} → statement M
-is-integer-spec = tie.close (tie.spec letter-requires returns)
+is-integer-spec = tie.close (tie.spec (λ c κs. search needs) returns)

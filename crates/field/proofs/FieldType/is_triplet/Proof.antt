@@ -2,11 +2,8 @@ use borrow.Author.Needs.{needs}
 use Rattle.field.proofs.FieldType.is_triplet.Statement.{statement}
 use Rattle.field.proofs.FieldType.is_triplet.Tie as tie
 
-letter-requires : tie.Need-letter-requires
-letter-requires c κs = search needs
-
 returns : tie.Need-returns
 returns c = simp (← c .letter .ensures)
 
 pub is-triplet-spec : {M : Type 1} → statement M
-is-triplet-spec = tie.close (tie.spec letter-requires returns)
+is-triplet-spec = tie.close (tie.spec (λ c κs. search needs) returns)

@@ -21,12 +21,6 @@ abbrev μ-loop : tie.MeasureT-loop
 loop-holds : tie.Need-loop-holds Inv-loop μ-loop
 loop-holds c = (omega arith, refl)
 
-mul-c : tie.Need-mul-c Inv-loop μ-loop
-mul-c c = search needs
-
-array-read-c : tie.Need-array-read-c Inv-loop μ-loop
-array-read-c c = search needs
-
 sub-c : tie.Need-sub-c Inv-loop μ-loop
 sub-c c = omega (arith, (c .before .before .pre) (suc ((c .before .loop) .k)) (omega arith) (omega arith) .0)
 
@@ -34,27 +28,21 @@ mul-c-2 : tie.Need-mul-c-2 Inv-loop μ-loop
 mul-c-2 c = omega (arith, (c .before .before .pre) (suc ((c .before .loop) .k)) (omega arith) (omega arith) .1)
 
 element-copy-out-c : tie.Need-element-copy-out-c Inv-loop μ-loop
-element-copy-out-c c = omega (arith, (c .before .before .pre) (suc ((c .before .loop) .k)) (omega arith) (omega arith) .0, (c .before .before .pre) (suc ((c .before .loop) .k)) (omega arith) (omega arith) .1)
-
-letter-requires : tie.Need-letter-requires Inv-loop μ-loop
-letter-requires c κs = search needs
-
-array-write-letters : tie.Need-array-write-letters Inv-loop μ-loop
-array-write-letters c = search needs
-
-add-k : tie.Need-add-k Inv-loop μ-loop
-add-k c = search needs
-
-loop-less : tie.Need-loop-less Inv-loop μ-loop
-loop-less c = search needs
+element-copy-out-c c =
+    let at-loop = c .before in
+    let start = at-loop .before in
+    omega (arith, (start .pre) (suc (at-loop .loop .k)) (omega arith) (omega arith) .0, (start .pre) (suc (at-loop .loop .k)) (omega arith) (omega arith) .1)
 
 loop-again : tie.Need-loop-again Inv-loop μ-loop
 loop-again c =
-    let s = (c .before .before .before .before .args) in
-    let b = (c .before .before .before .loop) in
-    let q : pred (getD (s .t2) (b .k) 0) ≡ getD (s .t2) (b .k) 0 - 1 = omega arith in
-    (omega arith,
-    front-next (λ k. letterOf (columnAt (s .t1) (getD (s .t2) k 0) .kind)) (b .k) _ (b .letters) (replicate 6 0) (b .inv .1) (rw q ((c .letter) .ensures)) (omega arith))
+    let at-loop = c .before .before .before in
+    let start = at-loop .before in
+    let s = start .args in
+    let b = at-loop .loop in
+    let q : pred (getD (s .t2) (b .k) 0) ≡ getD (s .t2) (b .k) 0 - 1 = omega arith in (
+      omega arith,
+      front-next (λ k. letterOf (columnAt (s .t1) (getD (s .t2) k 0) .kind)) (b .k) _ (b .letters) (replicate 6 0) (b .inv .1) (rw q (c .letter .ensures)) (omega arith),
+    )
 
 returns : tie.Need-returns Inv-loop μ-loop
 unfolding lettersOf
@@ -71,14 +59,14 @@ edge-letters-spec =
     Inv-loop
     μ-loop
     loop-holds
-    mul-c
-    array-read-c
+    (λ c. search needs)
+    (λ c. search needs)
     sub-c
     mul-c-2
     element-copy-out-c
-    letter-requires
-    array-write-letters
-    add-k
-    loop-less
+    (λ c κs. search needs)
+    (λ c. search needs)
+    (λ c. search needs)
+    (λ c. search needs)
     loop-again
     returns)

@@ -20,12 +20,6 @@ abbrev μ-loop : tie.MeasureT-loop
 loop-holds : tie.Need-loop-holds Inv-loop μ-loop
 loop-holds c = (omega arith, refl)
 
-mul-c : tie.Need-mul-c Inv-loop μ-loop
-mul-c c = search needs
-
-array-read-c : tie.Need-array-read-c Inv-loop μ-loop
-array-read-c c = search needs
-
 sub-c : tie.Need-sub-c Inv-loop μ-loop
 sub-c c = omega (arith, (c .before .before .pre) (suc ((c .before .loop) .k)) (omega arith) (omega arith) .0)
 
@@ -33,30 +27,21 @@ mul-c-2 : tie.Need-mul-c-2 Inv-loop μ-loop
 mul-c-2 c = omega (arith, (c .before .before .pre) (suc ((c .before .loop) .k)) (omega arith) (omega arith) .1)
 
 element-copy-out-c : tie.Need-element-copy-out-c Inv-loop μ-loop
-element-copy-out-c c = omega (arith, (c .before .before .pre) (suc ((c .before .loop) .k)) (omega arith) (omega arith) .0, (c .before .before .pre) (suc ((c .before .loop) .k)) (omega arith) (omega arith) .1)
-
-cast-offsets : tie.Need-cast-offsets Inv-loop μ-loop
-cast-offsets c = search needs
-
-mul-offsets : tie.Need-mul-offsets Inv-loop μ-loop
-mul-offsets c = search needs
-
-array-write-offsets : tie.Need-array-write-offsets Inv-loop μ-loop
-array-write-offsets c = search needs
-
-add-k : tie.Need-add-k Inv-loop μ-loop
-add-k c = search needs
-
-loop-less : tie.Need-loop-less Inv-loop μ-loop
-loop-less c = search needs
+element-copy-out-c c =
+    let at-loop = c .before in
+    let start = at-loop .before in
+    omega (arith, (start .pre) (suc (at-loop .loop .k)) (omega arith) (omega arith) .0, (start .pre) (suc (at-loop .loop .k)) (omega arith) (omega arith) .1)
 
 loop-again : tie.Need-loop-again Inv-loop μ-loop
 loop-again c =
-    let s = (c .before .before .before .before .args) in
-    let b = (c .before .before .before .loop) in
-    let q : pred (getD (s .t2) (b .k) 0) ≡ getD (s .t2) (b .k) 0 - 1 = omega arith in
-    (omega arith,
-    front-next (λ k. columnAt (s .t1) (getD (s .t2) k 0) .offset) (b .k) _ (b .offsets) (replicate 6 0) (b .inv .1) (rw q) (omega arith))
+    let at-loop = c .before .before .before in
+    let start = at-loop .before in
+    let s = start .args in
+    let b = at-loop .loop in
+    let q : pred (getD (s .t2) (b .k) 0) ≡ getD (s .t2) (b .k) 0 - 1 = omega arith in (
+      omega arith,
+      front-next (λ k. columnAt (s .t1) (getD (s .t2) k 0) .offset) (b .k) _ (b .offsets) (replicate 6 0) (b .inv .1) (rw q) (omega arith),
+    )
 
 returns : tie.Need-returns Inv-loop μ-loop
 unfolding offsetsOf
@@ -73,15 +58,15 @@ edge-offsets-spec =
     Inv-loop
     μ-loop
     loop-holds
-    mul-c
-    array-read-c
+    (λ c. search needs)
+    (λ c. search needs)
     sub-c
     mul-c-2
     element-copy-out-c
-    cast-offsets
-    mul-offsets
-    array-write-offsets
-    add-k
-    loop-less
+    (λ c. search needs)
+    (λ c. search needs)
+    (λ c. search needs)
+    (λ c. search needs)
+    (λ c. search needs)
     loop-again
     returns)

@@ -4,9 +4,6 @@ use borrow.Author.Needs.{needs}
 use Rattle.load.proofs.cells.edge_slots.Statement.{statement}
 use Rattle.load.proofs.cells.edge_slots.Tie as tie
 
-array-read-slots : tie.Need-array-read-slots
-array-read-slots c = search needs
-
 sub-slots : tie.Need-sub-slots
 sub-slots c = omega (arith, (c .pre) 1 (omega arith) (omega arith) .0)
 
@@ -15,9 +12,6 @@ mul-slots c = omega (arith, (c .pre) 1 (omega arith) (omega arith) .1)
 
 array-write-slots : tie.Need-array-write-slots
 array-write-slots c = omega (arith, (c .pre) 1 (omega arith) (omega arith) .0, (c .pre) 1 (omega arith) (omega arith) .1)
-
-array-read-slots-2 : tie.Need-array-read-slots-2
-array-read-slots-2 c = search needs
 
 sub-slots-2 : tie.Need-sub-slots-2
 sub-slots-2 c = omega (arith, (c .pre) 2 (omega arith) (omega arith) .0)
@@ -28,9 +22,6 @@ mul-slots-2 c = omega (arith, (c .pre) 2 (omega arith) (omega arith) .1)
 array-write-slots-2 : tie.Need-array-write-slots-2
 array-write-slots-2 c = omega (arith, (c .pre) 2 (omega arith) (omega arith) .0, (c .pre) 2 (omega arith) (omega arith) .1)
 
-array-read-slots-3 : tie.Need-array-read-slots-3
-array-read-slots-3 c = search needs
-
 sub-slots-3 : tie.Need-sub-slots-3
 sub-slots-3 c = omega (arith, (c .pre) 3 (omega arith) (omega arith) .0)
 
@@ -39,9 +30,6 @@ mul-slots-3 c = omega (arith, (c .pre) 3 (omega arith) (omega arith) .1)
 
 array-write-slots-3 : tie.Need-array-write-slots-3
 array-write-slots-3 c = omega (arith, (c .pre) 3 (omega arith) (omega arith) .0, (c .pre) 3 (omega arith) (omega arith) .1)
-
-array-read-slots-4 : tie.Need-array-read-slots-4
-array-read-slots-4 c = search needs
 
 sub-slots-4 : tie.Need-sub-slots-4
 sub-slots-4 c = omega (arith, (c .pre) 4 (omega arith) (omega arith) .0)
@@ -52,9 +40,6 @@ mul-slots-4 c = omega (arith, (c .pre) 4 (omega arith) (omega arith) .1)
 array-write-slots-4 : tie.Need-array-write-slots-4
 array-write-slots-4 c = omega (arith, (c .pre) 4 (omega arith) (omega arith) .0, (c .pre) 4 (omega arith) (omega arith) .1)
 
-array-read-slots-5 : tie.Need-array-read-slots-5
-array-read-slots-5 c = search needs
-
 sub-slots-5 : tie.Need-sub-slots-5
 sub-slots-5 c = omega (arith, (c .pre) 5 (omega arith) (omega arith) .0)
 
@@ -63,9 +48,6 @@ mul-slots-5 c = omega (arith, (c .pre) 5 (omega arith) (omega arith) .1)
 
 array-write-slots-5 : tie.Need-array-write-slots-5
 array-write-slots-5 c = omega (arith, (c .pre) 5 (omega arith) (omega arith) .0, (c .pre) 5 (omega arith) (omega arith) .1)
-
-array-read-slots-6 : tie.Need-array-read-slots-6
-array-read-slots-6 c = search needs
 
 sub-slots-6 : tie.Need-sub-slots-6
 sub-slots-6 c = omega (arith, (c .pre) 6 (omega arith) (omega arith) .0)
@@ -84,27 +66,27 @@ pub edge-slots-spec : {M : Type 1} → statement M
 edge-slots-spec =
     tie.close
     (tie.spec
-    array-read-slots
+    (λ c. search needs)
     sub-slots
     mul-slots
     array-write-slots
-    array-read-slots-2
+    (λ c. search needs)
     sub-slots-2
     mul-slots-2
     array-write-slots-2
-    array-read-slots-3
+    (λ c. search needs)
     sub-slots-3
     mul-slots-3
     array-write-slots-3
-    array-read-slots-4
+    (λ c. search needs)
     sub-slots-4
     mul-slots-4
     array-write-slots-4
-    array-read-slots-5
+    (λ c. search needs)
     sub-slots-5
     mul-slots-5
     array-write-slots-5
-    array-read-slots-6
+    (λ c. search needs)
     sub-slots-6
     mul-slots-6
     array-write-slots-6

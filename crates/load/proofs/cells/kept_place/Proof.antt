@@ -6,15 +6,6 @@ use borrow.Author.Needs.{needs}
 use Rattle.load.proofs.cells.kept_place.Statement.{statement}
 use Rattle.load.proofs.cells.kept_place.Tie as tie
 
-sub-result : tie.Need-sub-result
-sub-result c = search needs
-
-mul-result : tie.Need-mul-result
-mul-result c = search needs
-
-element-copy-out-result : tie.Need-element-copy-out-result
-element-copy-out-result c = search needs
-
 mul-result-2 : tie.Need-mul-result-2
 mul-result-2 c =
     let q : pred ((c .before .args) .column) ≡ (c .before .args) .column - 1 = omega arith in
@@ -35,9 +26,9 @@ pub kept-place-spec : {M : Type 1} → statement M
 kept-place-spec =
     tie.close
     (tie.spec
-    sub-result
-    mul-result
-    element-copy-out-result
+    (λ c. search needs)
+    (λ c. search needs)
+    (λ c. search needs)
     mul-result-2
     element-copy-out-result-2
     returns)

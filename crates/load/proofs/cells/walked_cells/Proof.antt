@@ -20,60 +20,47 @@ Inv-loop file plan slots letters columns n order start end at cells₀ k₀ cell
 abbrev μ-loop : tie.MeasureT-loop
 μ-loop file plan slots letters columns n order start end at cells₀ k₀ cells k = 6 - k
 
-find-planned-requires : tie.Need-find-planned-requires Inv-loop μ-loop
-find-planned-requires c κs = search needs
-
 loop-holds : tie.Need-loop-holds Inv-loop μ-loop
 loop-holds c = (omega arith, refl)
 
-mul-kept-place : tie.Need-mul-kept-place Inv-loop μ-loop
-mul-kept-place c = search needs
-
-element-copy-out-kept-place : tie.Need-element-copy-out-kept-place Inv-loop μ-loop
-element-copy-out-kept-place c = search needs
-
 kept-place-requires : tie.Need-kept-place-requires Inv-loop μ-loop
 kept-place-requires c κs =
-    let s = (c .before .before .before .before .before .before .args) in
-    let k = (c .before .before .before .loop) .k in
-    let d = (c .before .before .before .before .before .before .pre) .0 (suc k) (omega arith) (omega arith) in
-    (d .0, d .1, slot-small (s .columns .now) (s .slots .now) ((c .before .before .before .before .before .before .pre) .0) ((c .before .before .before .before .before .before .pre) .1) (suc k) (omega arith) (omega arith))
-
-element-copy-out-number-by : tie.Need-element-copy-out-number-by Inv-loop μ-loop
-element-copy-out-number-by c = search needs
-
-number-by-requires : tie.Need-number-by-requires Inv-loop μ-loop
-number-by-requires c κs = search needs
-
-mul-cells : tie.Need-mul-cells Inv-loop μ-loop
-mul-cells c = search needs
-
-array-write-cells : tie.Need-array-write-cells Inv-loop μ-loop
-array-write-cells c = search needs
-
-add-k : tie.Need-add-k Inv-loop μ-loop
-add-k c = search needs
-
-loop-less : tie.Need-loop-less Inv-loop μ-loop
-loop-less c = search needs
+    let at-loop = c .before .before .before in
+    let start = at-loop .before .before .before in
+    let s = start .args in
+    let k = at-loop .loop .k in
+    let d = start .pre .0 (suc k) (omega arith) (omega arith) in
+    (d .0, d .1, slot-small (s .columns .now) (s .slots .now) (start .pre .0) (start .pre .1) (suc k) (omega arith) (omega arith))
 
 loop-again : tie.Need-loop-again Inv-loop μ-loop
 loop-again c =
-    let s = (c .before .before .before .before .before .before .before .before .before .args) in
-    let b = (c .before .before .before .before .before .before .loop) in
-    let q = (c .number-by) .ensures ∙ ap (λ (p : ℕ). numberBy (s .order) (s .file .now) (getD (s .letters .now) (b .k) 0) p (s .end)) ((c .before .before .kept-place) .ensures) in
-    (omega arith,
-    front-next (λ k. numberBy (s .order) (s .file .now) (getD (s .letters .now) k 0) (keptFor ((c .before .before .before .before .before .before .before .find-planned) .result) (s .slots .now) (getD (s .columns .now) k 0)) (s .end)) (b .k) _ (b .cells) (replicate 6 0) (b .inv .1) q (omega arith))
+    let at-kept-place = c .before .before in
+    let at-loop = at-kept-place .before .before .before .before in
+    let at-find-planned = at-loop .before in
+    let start = at-find-planned .before .before in
+    let s = start .args in
+    let b = at-loop .loop in
+    let q = c .number-by .ensures ∙ ap (λ (p : ℕ). numberBy (s .order) (s .file .now) (getD (s .letters .now) (b .k) 0) p (s .end))
+    (at-kept-place .kept-place .ensures) in (
+      omega arith,
+      front-next (λ k. numberBy (s .order) (s .file .now) (getD (s .letters .now) k 0) (keptFor (at-find-planned .find-planned .result)
+          (s .slots .now) (getD (s .columns .now) k 0)) (s .end)) (b .k) _ (b .cells) (replicate 6 0) (b .inv .1) q (omega arith),
+    )
 
 returns : tie.Need-returns Inv-loop μ-loop
 unfolding walkedCells
 returns c =
-    let s = (c .before .before .before .before .args) in
-    let b = (c .before .loop) in
+    let at-loop = c .before in
+    let at-find-planned = at-loop .before in
+    let start = at-find-planned .before .before in
+    let s = start .args in
+    let b = at-loop .loop in
     let q : b .k ≡ 6 = omega arith in
     b .inv .1
-    ∙ ap (λ (n : ℕ). front (λ k. numberBy (s .order) (s .file .now) (getD (s .letters .now) k 0) (keptFor ((c .before .before .find-planned) .result) (s .slots .now) (getD (s .columns .now) k 0)) (s .end)) n (replicate 6 0)) q
-    ∙ ap (λ (at : List ℕ). front (λ k. numberBy (s .order) (s .file .now) (getD (s .letters .now) k 0) (keptFor at (s .slots .now) (getD (s .columns .now) k 0)) (s .end)) 6 (replicate 6 0)) ((c .before .before .find-planned) .ensures)
+    ∙ ap (λ (n : ℕ). front (λ k. numberBy (s .order) (s .file .now) (getD (s .letters .now) k 0) (keptFor (at-find-planned .find-planned .result)
+    (s .slots .now) (getD (s .columns .now) k 0)) (s .end)) n (replicate 6 0)) q
+    ∙ ap (λ (at : List ℕ). front (λ k. numberBy (s .order) (s .file .now) (getD (s .letters .now) k 0) (keptFor at (s .slots .now) (getD
+    (s .columns .now) k 0)) (s .end)) 6 (replicate 6 0)) (at-find-planned .find-planned .ensures)
 
 pub walked-cells-spec : {M : Type 1} → statement M
 walked-cells-spec =
@@ -81,16 +68,16 @@ walked-cells-spec =
     (tie.spec
     Inv-loop
     μ-loop
-    find-planned-requires
+    (λ c κs. search needs)
     loop-holds
-    mul-kept-place
-    element-copy-out-kept-place
+    (λ c. search needs)
+    (λ c. search needs)
     kept-place-requires
-    element-copy-out-number-by
-    number-by-requires
-    mul-cells
-    array-write-cells
-    add-k
-    loop-less
+    (λ c. search needs)
+    (λ c κs. search needs)
+    (λ c. search needs)
+    (λ c. search needs)
+    (λ c. search needs)
+    (λ c. search needs)
     loop-again
     returns)

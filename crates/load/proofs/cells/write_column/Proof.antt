@@ -22,83 +22,74 @@ abbrev μ-loop : tie.MeasureT-loop
     rows - i
 
 sub-c : tie.Need-sub-c Inv-loop μ-loop
-sub-c c = let d = column-there ((c .before .before .before .before .args) .table .layout) ((c .before .before .before .before .args) .column) ((c .before .before .before .before .pre) .1 .1 .0) in omega arith
+sub-c c =
+    let start = c .before .before .before .before in
+    let d = column-there (start .args .table .layout) (start .args .column) (start .pre .1 .1 .0) in omega arith
 
 mul-c : tie.Need-mul-c Inv-loop μ-loop
-mul-c c = let d = column-there ((c .before .before .before .before .args) .table .layout) ((c .before .before .before .before .args) .column) ((c .before .before .before .before .pre) .1 .1 .0) in omega arith
+mul-c c =
+    let start = c .before .before .before .before in
+    let d = column-there (start .args .table .layout) (start .args .column) (start .pre .1 .1 .0) in omega arith
 
 element-copy-out-c : tie.Need-element-copy-out-c Inv-loop μ-loop
-element-copy-out-c c = let d = column-there ((c .before .before .before .before .args) .table .layout) ((c .before .before .before .before .args) .column) ((c .before .before .before .before .pre) .1 .1 .0) in omega arith
-
-letter-requires : tie.Need-letter-requires Inv-loop μ-loop
-letter-requires c κs = search needs
-
-cast-offset : tie.Need-cast-offset Inv-loop μ-loop
-cast-offset c = search needs
-
-plan-of-requires : tie.Need-plan-of-requires Inv-loop μ-loop
-plan-of-requires c κs = search needs
+element-copy-out-c c =
+    let start = c .before .before .before .before in
+    let d = column-there (start .args .table .layout) (start .args .column) (start .pre .1 .1 .0) in omega arith
 
 slot-for-requires : tie.Need-slot-for-requires Inv-loop μ-loop
-slot-for-requires c κs = column-there ((c .before .before .before .before .before .before .before .before .args) .table .layout) ((c .before .before .before .before .before .before .before .before .args) .column) ((c .before .before .before .before .before .before .before .before .pre) .1 .1 .0)
-
-cast-start : tie.Need-cast-start Inv-loop μ-loop
-cast-start c = search needs
+slot-for-requires c κs =
+    let start = c .before .before .before .before .before .before .before .before in
+    column-there (start .args .table .layout) (start .args .column) (start .pre .1 .1 .0)
 
 loop-holds : tie.Need-loop-holds Inv-loop μ-loop
 loop-holds c =
-    let l = (c .before .before .before .before .before .before .before .before .before .args) .table .layout in
-    (omega arith, bound-first (l .order) ((c .before .before .before .before .before .before .before .before .before .args) .index .now) (l .start) (l .width), refl, refl)
-
-add-bound-by : tie.Need-add-bound-by Inv-loop μ-loop
-add-bound-by c = search needs
-
-bound-by-requires : tie.Need-bound-by-requires Inv-loop μ-loop
-bound-by-requires c κs = search needs
-
-column-cell-requires : tie.Need-column-cell-requires Inv-loop μ-loop
-column-cell-requires c κs = search needs
-
-mul-out : tie.Need-mul-out Inv-loop μ-loop
-mul-out c = search needs
-
-slice-write-out : tie.Need-slice-write-out Inv-loop μ-loop
-slice-write-out c = search needs
-
-add-i : tie.Need-add-i Inv-loop μ-loop
-add-i c = search needs
-
-loop-less : tie.Need-loop-less Inv-loop μ-loop
-loop-less c = search needs
+    let start = c .before .before .before .before .before .before .before .before .before in
+    let l = start .args .table .layout in
+    (omega arith, bound-first (l .order) (start .args .index .now) (l .start) (l .width), refl, refl)
 
 loop-again : tie.Need-loop-again Inv-loop μ-loop
 loop-again c =
-    let s = (c .before .before .before .before .before .before .before .before .before .before .before .before .before .before .before .args) in
+    let at-bound-by = c .before .before .before in
+    let at-loop-test = at-bound-by .before in
+    let at-loop = at-loop-test .before in
+    let at-slot-for = at-loop .before in
+    let at-plan-of = at-slot-for .before in
+    let at-letter = at-plan-of .before .before in
+    let start = at-letter .before .before .before .before .before .before in
+    let s = start .args in
     let l = s .table .layout in
-    let b = (c .before .before .before .before .before .loop) in
-    let few = (c .before .before .before .before .before .before .before .before .before .before .before .before .before .before .before .pre) .0 in
-    let more = (c .before .before .before .before .loop-test) .taken in
-    let plan = (c .before .before .before .before .before .before .before .plan-of) .result in
-    let slots = (c .before .before .before .before .before .before .slot-for) .result in
-    (omega arith,
-    ends-at (l .order) (s .index .now) (l .start) (l .width) (s .table .rows) (b .i) (b .start) ((c .before .before .before .bound-by) .result) few more (b .inv .1) ((c .before .before .before .bound-by) .ensures),
-    front-next (columnCellBy (l .order) (s .file .now) (s .index .now) (l .start) (l .width) plan slots (s .column) ((c .before .before .before .before .before .before .before .before .before .letter) .result) _) (b .i) _ (b .out) (s .out .now) (b .inv .2)
-    (one-from (l .order) (s .index .now) (l .start) (l .width) (s .table .rows) (b .i) (b .start) ((c .before .before .before .bound-by) .result) few more (b .inv .1) ((c .before .before .before .bound-by) .ensures) (s .file .now) plan slots (s .column) ((c .before .before .before .before .before .before .before .before .before .letter) .result) _ _ ((c .column-cell) .ensures))
-    (omega (arith, (c .before .before .before .before .before .before .before .before .before .before .before .before .before .before .before .pre) .1 .1 .1)),
-    simp length-set (b .inv .3))
-
-same-length : tie.Need-same-length Inv-loop μ-loop
-same-length c = search needs
+    let b = at-loop .loop in
+    let few = start .pre .0 in
+    let more = at-loop-test .loop-test .taken in
+    let plan = at-plan-of .plan-of .result in
+    let slots = at-slot-for .slot-for .result in (
+      omega arith,
+      ends-at (l .order) (s .index .now) (l .start) (l .width) (s .table .rows) (b .i) (b .start) (at-bound-by .bound-by .result) few more (b .inv .1)
+          (at-bound-by .bound-by .ensures),
+      front-next (columnCellBy (l .order) (s .file .now) (s .index .now) (l .start) (l .width) plan slots (s .column) (at-letter .letter .result) _)
+          (b .i) _ (b .out) (s .out .now) (b .inv .2)
+          (one-from (l .order) (s .index .now) (l .start) (l .width) (s .table .rows) (b .i) (b .start) (at-bound-by .bound-by .result) few more
+          (b .inv .1) (at-bound-by .bound-by .ensures) (s .file .now) plan slots (s .column) (at-letter .letter .result) _ _ (c .column-cell .ensures))
+          (omega (arith, start .pre .1 .1 .1)),
+      simp length-set (b .inv .3),
+    )
 
 returns : tie.Need-returns Inv-loop μ-loop
 returns c =
-    let s = (c .before .before .before .before .before .before .before .before .before .before .before .args) in
+    let at-loop = c .before in
+    let at-slot-for = at-loop .before in
+    let at-plan-of = at-slot-for .before in
+    let at-letter = at-plan-of .before .before in
+    let start = at-letter .before .before .before .before .before .before in
+    let s = start .args in
     let l = s .table .layout in
-    let b = (c .before .loop) in
-    let d = column-there l (s .column) ((c .before .before .before .before .before .before .before .before .before .before .before .pre) .1 .1 .0) in
+    let b = at-loop .loop in
+    let d = column-there l (s .column) (start .pre .1 .1 .0) in
     let q : pred (s .column) ≡ s .column - 1 = omega arith in
     let all : b .i ≡ s .table .rows = omega arith in
-    column-written (s .file .now) (s .index .now) l (s .table .rows) ((c .before .before .before .before .before .before .before .before .before .before .before .pre) .1 .0) ((c .before .before .before .plan-of) .result) ((c .before .before .before .plan-of) .ensures) (s .column) ((c .before .before .before .before .before .before .before .before .before .before .before .pre) .1 .1 .0) ((c .before .before .slot-for) .result) ((c .before .before .slot-for) .ensures) ((c .before .before .before .before .before .letter) .result) _ (rw q ((c .before .before .before .before .before .letter) .ensures)) (rw q) (b .i) (s .out .now) (b .out) all (b .inv .2)
+    column-written (s .file .now) (s .index .now) l (s .table .rows) (start .pre .1 .0) (at-plan-of .plan-of .result) (at-plan-of .plan-of .ensures)
+    (s .column) (start .pre .1 .1 .0) (at-slot-for .slot-for .result) (at-slot-for .slot-for .ensures) (at-letter .letter .result) _ (rw q
+    (at-letter .letter .ensures)) (rw q) (b .i) (s .out .now) (b .out) all (b .inv .2)
 
 pub write-column-spec : {M : Type 1} → statement M
 write-column-spec =
@@ -109,19 +100,19 @@ write-column-spec =
     sub-c
     mul-c
     element-copy-out-c
-    letter-requires
-    cast-offset
-    plan-of-requires
+    (λ c κs. search needs)
+    (λ c. search needs)
+    (λ c κs. search needs)
     slot-for-requires
-    cast-start
+    (λ c. search needs)
     loop-holds
-    add-bound-by
-    bound-by-requires
-    column-cell-requires
-    mul-out
-    slice-write-out
-    add-i
-    loop-less
+    (λ c. search needs)
+    (λ c κs. search needs)
+    (λ c κs. search needs)
+    (λ c. search needs)
+    (λ c. search needs)
+    (λ c. search needs)
+    (λ c. search needs)
     loop-again
-    same-length
+    (λ c. search needs)
     returns)

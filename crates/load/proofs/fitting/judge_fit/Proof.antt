@@ -3,68 +3,46 @@ use Rattle.load.specs.Load.{fitFinding}
 use Rattle.load.proofs.fitting.judge_fit.Statement.{statement}
 use Rattle.load.proofs.fitting.judge_fit.Tie as tie
 
--- src/fitting.rt:179:9
-judge-columns-requires : tie.Need-judge-columns-requires
-judge-columns-requires c κs = search needs
-
--- src/fitting.rt:180:9
-judge-empty-requires : tie.Need-judge-empty-requires
-judge-empty-requires c κs = search needs
-
--- src/fitting.rt:181:9
-judge-empty-requires-2 : tie.Need-judge-empty-requires-2
-judge-empty-requires-2 c κs = search needs
-
--- src/fitting.rt:182:33
-rows-for-requires : tie.Need-rows-for-requires
-rows-for-requires c κs = search needs
-
--- src/fitting.rt:182:9
-judge-room-requires : tie.Need-judge-room-requires
-judge-room-requires c κs = search needs
-
--- src/fitting.rt:183:121
-no-refusal-requires : tie.Need-no-refusal-requires
-no-refusal-requires c κs = search needs
-
--- src/fitting.rt:183:93
-find-requires : tie.Need-find-requires
-find-requires c κs = search needs
-
--- src/fitting.rt:183:71
-first-found-requires : tie.Need-first-found-requires
-first-found-requires c κs = search needs
-
--- src/fitting.rt:183:49
-first-found-requires-2 : tie.Need-first-found-requires-2
-first-found-requires-2 c κs = search needs
-
--- src/fitting.rt:183:27
-first-found-requires-3 : tie.Need-first-found-requires-3
-first-found-requires-3 c κs = search needs
-
--- src/fitting.rt:183:5
-first-found-requires-4 : tie.Need-first-found-requires-4
-first-found-requires-4 c κs = search needs
-
--- src/fitting.rt:176:1
 returns : tie.Need-returns
 unfolding fitFinding
-returns c = simp (← c .first-found4 .ensures, ← c .before .first-found3 .ensures, ← c .before .before .first-found2 .ensures, ← c .before .before .before .first-found .ensures, ← c .before .before .before .before .find .ensures, ← c .before .before .before .before .before .no-refusal .ensures, ← c .before .before .before .before .before .before .judge-room .ensures, ← c .before .before .before .before .before .before .before .rows-for .ensures, ← c .before .before .before .before .before .before .before .before .judge-empty2 .ensures, ← c .before .before .before .before .before .before .before .before .before .judge-empty .ensures, ← c .before .before .before .before .before .before .before .before .before .before .judge-columns .ensures)
+returns c =
+    let at-first-found3 = c .before in
+    let at-first-found2 = at-first-found3 .before in
+    let at-first-found = at-first-found2 .before in
+    let at-find = at-first-found .before in
+    let at-no-refusal = at-find .before in
+    let at-judge-room = at-no-refusal .before in
+    let at-rows-for = at-judge-room .before in
+    let at-judge-empty2 = at-rows-for .before in
+    let at-judge-empty = at-judge-empty2 .before in
+    let at-judge-columns = at-judge-empty .before in
+    simp (
+      ← c .first-found4 .ensures,
+      ← at-first-found3 .first-found3 .ensures,
+      ← at-first-found2 .first-found2 .ensures,
+      ← at-first-found .first-found .ensures,
+      ← at-find .find .ensures,
+      ← at-no-refusal .no-refusal .ensures,
+      ← at-judge-room .judge-room .ensures,
+      ← at-rows-for .rows-for .ensures,
+      ← at-judge-empty2 .judge-empty2 .ensures,
+      ← at-judge-empty .judge-empty .ensures,
+      ← at-judge-columns .judge-columns .ensures,
+    )
 
 pub judge-fit-spec : {M : Type 1} → statement M
 judge-fit-spec =
     tie.close
     (tie.spec
-    judge-columns-requires
-    judge-empty-requires
-    judge-empty-requires-2
-    rows-for-requires
-    judge-room-requires
-    no-refusal-requires
-    find-requires
-    first-found-requires
-    first-found-requires-2
-    first-found-requires-3
-    first-found-requires-4
+    (λ c κs. search needs)
+    (λ c κs. search needs)
+    (λ c κs. search needs)
+    (λ c κs. search needs)
+    (λ c κs. search needs)
+    (λ c κs. search needs)
+    (λ c κs. search needs)
+    (λ c κs. search needs)
+    (λ c κs. search needs)
+    (λ c κs. search needs)
+    (λ c κs. search needs)
     returns)

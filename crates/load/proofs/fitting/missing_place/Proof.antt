@@ -14,41 +14,26 @@ Inv-loop columns i₀ i = (i ≤ 10) × None (missing columns) i
 abbrev μ-loop : tie.MeasureT-loop
 μ-loop columns i₀ i = 10 - i
 
--- src/fitting.rt:106:5
 loop-holds : tie.Need-loop-holds Inv-loop μ-loop
 loop-holds c = (omega arith, none-start (missing ((c .args) .t1)))
 
--- src/fitting.rt:107:12
-mul-if1 : tie.Need-mul-if1 Inv-loop μ-loop
-mul-if1 c = search needs
-
--- src/fitting.rt:107:12
-array-read-if1 : tie.Need-array-read-if1 Inv-loop μ-loop
-array-read-if1 c = search needs
-
--- src/fitting.rt:108:20
-add-result : tie.Need-add-result Inv-loop μ-loop
-add-result c = search needs
-
--- src/fitting.rt:108:13
 returns : tie.Need-returns Inv-loop μ-loop
-returns c = lowest-next (missing ((c .before .before .before .args) .t1)) 10 ((c .before .before .loop) .i) ((c .before .loop-test) .taken) ((c .before .before .loop) .inv .1) (eq-eqb _ 0 ((c .if1) .taken))
+returns c =
+    let at-loop-test = c .before in
+    let at-loop = at-loop-test .before in
+    let start = at-loop .before in
+    lowest-next (missing (start .args .t1)) 10 (at-loop .loop .i) (at-loop-test .loop-test .taken) (at-loop .loop .inv .1) (eq-eqb _ 0 (c .if1 .taken))
 
--- src/fitting.rt:110:9
-add-i : tie.Need-add-i Inv-loop μ-loop
-add-i c = search needs
-
--- src/fitting.rt:106:5
-loop-less : tie.Need-loop-less Inv-loop μ-loop
-loop-less c = search needs
-
--- src/fitting.rt:106:5
 loop-again : tie.Need-loop-again Inv-loop μ-loop
-loop-again c = (omega (arith, (c .before .loop-test) .taken), none-next (missing ((c .before .before .before .args) .t1)) ((c .before .before .loop) .i) ((c .before .before .loop) .inv .1) (ne-eqb _ 0 ((c .if1) .left)))
+loop-again c =
+    let at-loop-test = c .before in
+    let at-loop = at-loop-test .before in
+    let start = at-loop .before in
+    (omega (arith, at-loop-test .loop-test .taken), none-next (missing (start .args .t1)) (at-loop .loop .i) (at-loop .loop .inv .1) (ne-eqb _ 0 (c .if1 .left)))
 
--- src/fitting.rt:102:1
 returns-2 : tie.Need-returns-2 Inv-loop μ-loop
-returns-2 c = lowest-ended (missing ((c .before .before .args) .t1)) 10 ((c .before .loop) .i) ((c .loop-test) .left) ((c .before .loop) .inv .0) ((c .before .loop) .inv .1)
+returns-2 c = lowest-ended (missing ((c .before .before .args) .t1)) 10 ((c .before .loop) .i) ((c .loop-test) .left) ((c .before .loop) .inv .0)
+    ((c .before .loop) .inv .1)
 
 pub missing-place-spec : {M : Type 1} → statement M
 missing-place-spec =
@@ -57,11 +42,11 @@ missing-place-spec =
     Inv-loop
     μ-loop
     loop-holds
-    mul-if1
-    array-read-if1
-    add-result
+    (λ c. search needs)
+    (λ c. search needs)
+    (λ c. search needs)
     returns
-    add-i
-    loop-less
+    (λ c. search needs)
+    (λ c. search needs)
     loop-again
     returns-2)

@@ -3,7 +3,6 @@ use Rattle.load.specs.Sources.{rowsFor}
 use Rattle.load.proofs.fitting.rows_for.Statement.{statement}
 use Rattle.load.proofs.fitting.rows_for.Tie as tie
 
--- src/fitting.rt:157:1
 returns : tie.Need-returns
 unfolding rowsFor
 returns c = search needs

@@ -3,17 +3,14 @@ use Rattle.load.specs.Sources.{tripletsToo}
 use Rattle.load.proofs.fitting.takes_triplets.Statement.{statement}
 use Rattle.load.proofs.fitting.takes_triplets.Tie as tie
 
--- src/fitting.rt:43:9
 returns : tie.Need-returns
 unfolding tripletsToo
 returns c = simp (lt-ltb _ _ (c .if1 .taken), lt-leb _ _ (c .if1 .taken))
 
--- src/fitting.rt:46:9
 returns-2 : tie.Need-returns-2
 unfolding tripletsToo
 returns-2 c = simp (le-leb _ _ (c .if2 .taken), le-ltb _ _ (c .if2 .taken), le-leb _ _ (c .before .if1 .left), le-ltb _ _ (c .before .if1 .left))
 
--- src/fitting.rt:39:1
 returns-3 : tie.Need-returns-3
 unfolding tripletsToo
 returns-3 c = simp (lt-ltb _ _ (c .if2 .left), lt-leb _ _ (c .if2 .left), le-leb _ _ (c .before .if1 .left), le-ltb _ _ (c .before .if1 .left))

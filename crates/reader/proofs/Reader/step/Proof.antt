@@ -1,6 +1,8 @@
--- `reader::Reader::step`, a method with `&mut self`, meets its contract: a walk of its MIR, by hand. The borrow is opened, `step_at` is called on the slice and the number that the reader holds, the number in its answer is stored, and the borrow is closed at the reader with that number.
--- What the file owns is kept, and the facts of numbers and of answers are made anew where they are asked for. All that the proof knows of `step_at` is that it meets its contract.
--- Assumes nothing.
+-- `reader::Reader::step`, a method with `&mut self`, meets its contract: a walk of its MIR, by hand. The borrow is opened, `step_at` is
+-- called on the slice and the number that the reader holds, the number in its answer is stored, and the borrow is closed at the reader with
+-- that number.
+-- What the file owns is kept, and the facts of numbers and of answers are made anew where they are asked for. All that the proof knows of
+-- `step_at` is that it meets its contract.
 use mathlib.Core.Path.{_≡_, refl, ap}
 use Prim.Native.Nat.{ℕ, _<_, _^_}
 use mathlib.Core.List.{List, [], _∷_}
@@ -17,9 +19,11 @@ use ghost.Atoms.{Atoms}
 use contract.Lifetimes.{AllOutlive}
 use contract.Monad.{Fun}
 use contract.Running.{givenOf, tables, tablesOf}
-use types.Kit.{Given, ‵, raw, _⊛_, ⋆, _$_, _∵_, !, qed, by, move, keep, drop, use1, use2, split, join, rewrite, fsplit, fsplit3, fjoin, fjoin3, feqI, suffices, frame, done}
+use types.Kit.{Given, ‵, raw, _⊛_, ⋆, _$_, _∵_, !, qed, by, move, keep, drop, use1, use2, split, join, rewrite, fsplit, fsplit3, fjoin}
+use types.Kit.{fjoin3, feqI, suffices, frame, done}
 use types.Part.{whole, sub, look-in, store-in}
-use types.Run.{look, init, forget, stop, hop, fld, from, load, of-opd, and-then, no-more, assigns, land, returns, enter, alloc1, alloc0, params1, pass1, pass0, free1, free0}
+use types.Run.{look, init, forget, stop, hop, fld, from, load, of-opd, and-then, no-more, assigns, land, returns, enter, alloc1, alloc0}
+use types.Run.{params1, pass1, pass0, free1, free0}
 use types.SemTy.{Body}
 use sound.WpLaws.{FmC, fmOf, WpFn-mono}
 use denote.RattleType.{RattleType, owns}

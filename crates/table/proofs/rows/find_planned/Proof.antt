@@ -6,27 +6,28 @@ use Rattle.table.specs.Plans.{plannedPlaces}
 use Rattle.table.proofs.rows.find_planned.Statement.{statement}
 use Rattle.table.proofs.rows.find_planned.Tie as tie
 
-lies-outside-requires : tie.Need-lies-outside-requires
-lies-outside-requires c κs = search needs
-
 returns : tie.Need-returns
 unfolding plannedPlaces
 returns c = simp (c .if1 .taken, ← c .before .lies-outside .ensures)
 
-lesser-requires : tie.Need-lesser-requires
-lesser-requires c κs = search needs
-
 keep-places-requires : tie.Need-keep-places-requires
 keep-places-requires c κs =
-    let s = (c .before .before .before .before .args) in
-    let i = inside (s .file .now) (s .start) (s .end) (sym ((c .before .before .lies-outside) .ensures) ∙ (c .before .if1) .left) in
-    (i .0, i .1, omega (arith, (c .lesser) .ensures))
+    let at-if1 = c .before in
+    let at-lies-outside = at-if1 .before in
+    let start = at-lies-outside .before .before in
+    let s = start .args in
+    let i = inside (s .file .now) (s .start) (s .end) (sym (at-lies-outside .lies-outside .ensures) ∙ at-if1 .if1 .left) in
+    (i .0, i .1, omega (arith, c .lesser .ensures))
 
 returns-2 : tie.Need-returns-2
 unfolding plannedPlaces
-returns-2 c = simp (← c .keep-places .ensures, ← c .before .lesser .ensures, c .before .before .if1 .left, ← c .before .before .before .lies-outside .ensures)
+returns-2 c =
+    let at-lesser = c .before in
+    let at-if1 = at-lesser .before in
+    let at-lies-outside = at-if1 .before in
+    simp (← c .keep-places .ensures, ← at-lesser .lesser .ensures, at-if1 .if1 .left, ← at-lies-outside .lies-outside .ensures)
 
 pub find-planned-spec : {M : Type 1} → statement M
 find-planned-spec =
     tie.close
-    (tie.spec lies-outside-requires returns lesser-requires keep-places-requires returns-2)
+    (tie.spec (λ c κs. search needs) returns (λ c κs. search needs) keep-places-requires returns-2)

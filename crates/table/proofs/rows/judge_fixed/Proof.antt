@@ -19,84 +19,66 @@ Inv-loop file index n order missing offset first width start₀ i₀ start i =
 abbrev μ-loop : tie.MeasureT-loop
 μ-loop file index n order missing offset first width start₀ i₀ start i = n - i
 
--- src/rows.rt:64:9
-no-such-column-requires : tie.Need-no-such-column-requires Inv-loop μ-loop
-no-such-column-requires c κs = search needs
-
--- src/rows.rt:65:9
-id-offset-requires : tie.Need-id-offset-requires Inv-loop μ-loop
-id-offset-requires c κs = search needs
-
--- src/rows.rt:68:21
-cast-start : tie.Need-cast-start Inv-loop μ-loop
-cast-start c = search needs
-
--- src/rows.rt:70:5
 loop-holds : tie.Need-loop-holds Inv-loop μ-loop
 loop-holds c = (omega arith, omega arith, omega arith, none-start _)
 
--- src/rows.rt:71:52
-add-fixed-bound : tie.Need-add-fixed-bound Inv-loop μ-loop
-add-fixed-bound c = search needs
-
--- src/rows.rt:71:13
-fixed-bound-requires : tie.Need-fixed-bound-requires Inv-loop μ-loop
-fixed-bound-requires c κs = search needs
-
--- src/rows.rt:72:80
-add-judge-fixed-row : tie.Need-add-judge-fixed-row Inv-loop μ-loop
-add-judge-fixed-row c = search needs
-
--- src/rows.rt:72:13
-judge-fixed-row-requires : tie.Need-judge-fixed-row-requires Inv-loop μ-loop
-judge-fixed-row-requires c κs = search needs
-
--- src/rows.rt:74:13
 returns : tie.Need-returns Inv-loop μ-loop
 returns c =
-    let s = (c .before .before .before .before .before .before .before .before .before .before .args) in
+    let at-judge-fixed-row = c .before .before in
+    let at-fixed-bound = at-judge-fixed-row .before in
+    let at-loop-test = at-fixed-bound .before in
+    let at-loop = at-loop-test .before in
+    let at-id-offset = at-loop .before in
+    let at-no-such-column = at-id-offset .before in
+    let start = at-no-such-column .before .before .before in
+    let s = start .args in
     let l = s .layout in
-    let b = (c .before .before .before .before .before .loop) in
-    let m = (c .before .before .before .before .before .before .before .no-such-column) in
-    let o = (c .before .before .before .before .before .before .id-offset) in
-    found (fixedAt (l .order) (s .file .now) (m .result) (o .result) (l .start) (l .width)) (s .n) (b .i) ((c .before .before .judge-fixed-row) .result) ((c .before .before .before .before .loop-test) .taken) (b .inv .3)
-    (fixed-next (l .order) (s .file .now) (m .result) (o .result) (l .start) (l .width) (b .start) ((c .before .before .before .fixed-bound) .result) (b .i) _ (b .inv .2) ((c .before .before .before .fixed-bound) .ensures) ((c .before .before .judge-fixed-row) .ensures)) ((c .if1) .taken)
-    ∙ fixed-rows (s .file .now) (s .index .now) l ((c .before .before .before .before .before .before .before .before .before .before .pre) .0) (s .n) (m .result) (o .result) (m .ensures) (o .ensures)
+    let b = at-loop .loop in
+    let m = (at-no-such-column .no-such-column) in
+    let o = (at-id-offset .id-offset) in
+    found (fixedAt (l .order) (s .file .now) (m .result) (o .result) (l .start) (l .width)) (s .n) (b .i)
+    (at-judge-fixed-row .judge-fixed-row .result) (at-loop-test .loop-test .taken) (b .inv .3)
+    (fixed-next (l .order) (s .file .now) (m .result) (o .result) (l .start) (l .width) (b .start) (at-fixed-bound .fixed-bound .result) (b .i) _
+    (b .inv .2) (at-fixed-bound .fixed-bound .ensures) (at-judge-fixed-row .judge-fixed-row .ensures)) (c .if1 .taken)
+    ∙ fixed-rows (s .file .now) (s .index .now) l (start .pre .0) (s .n) (m .result) (o .result) (m .ensures) (o .ensures)
 
--- src/rows.rt:77:9
-add-i : tie.Need-add-i Inv-loop μ-loop
-add-i c = search needs
-
--- src/rows.rt:70:5
-loop-less : tie.Need-loop-less Inv-loop μ-loop
-loop-less c = search needs
-
--- src/rows.rt:70:5
 loop-again : tie.Need-loop-again Inv-loop μ-loop
 loop-again c =
-    let s = (c .before .before .before .before .before .before .before .before .before .before .args) in
+    let at-judge-fixed-row = c .before .before in
+    let at-fixed-bound = at-judge-fixed-row .before in
+    let at-loop-test = at-fixed-bound .before in
+    let at-loop = at-loop-test .before in
+    let at-id-offset = at-loop .before in
+    let at-no-such-column = at-id-offset .before in
+    let start = at-no-such-column .before .before .before in
+    let s = start .args in
     let l = s .layout in
-    let b = (c .before .before .before .before .before .loop) in
-    let m = (c .before .before .before .before .before .before .before .no-such-column) in
-    let o = (c .before .before .before .before .before .before .id-offset) in
-    (omega (arith, (c .before .before .before .before .loop-test) .taken), b .inv .1, (c .before .before .before .fixed-bound) .ensures,
-    on-next (fixedAt (l .order) (s .file .now) (m .result) (o .result) (l .start) (l .width)) (b .i) ((c .before .before .judge-fixed-row) .result) (b .inv .3)
-    (fixed-next (l .order) (s .file .now) (m .result) (o .result) (l .start) (l .width) (b .start) ((c .before .before .before .fixed-bound) .result) (b .i) _ (b .inv .2) ((c .before .before .before .fixed-bound) .ensures) ((c .before .before .judge-fixed-row) .ensures)) ((c .if1) .left))
+    let b = at-loop .loop in
+    let m = (at-no-such-column .no-such-column) in
+    let o = (at-id-offset .id-offset) in (
+      omega (arith, at-loop-test .loop-test .taken),
+      b .inv .1,
+      at-fixed-bound .fixed-bound .ensures,
+      on-next (fixedAt (l .order) (s .file .now) (m .result) (o .result) (l .start) (l .width)) (b .i) (at-judge-fixed-row .judge-fixed-row .result) (b .inv .3)
+          (fixed-next (l .order) (s .file .now) (m .result) (o .result) (l .start) (l .width) (b .start) (at-fixed-bound .fixed-bound .result) (b .i) _
+          (b .inv .2) (at-fixed-bound .fixed-bound .ensures) (at-judge-fixed-row .judge-fixed-row .ensures)) (c .if1 .left),
+    )
 
--- src/rows.rt:79:5
-no-refusal-requires : tie.Need-no-refusal-requires Inv-loop μ-loop
-no-refusal-requires c κs = search needs
-
--- src/rows.rt:58:1
 returns-2 : tie.Need-returns-2 Inv-loop μ-loop
 returns-2 c =
-    let s = (c .before .before .before .before .before .before .before .args) in
+    let at-loop-test = c .before in
+    let at-loop = at-loop-test .before in
+    let at-id-offset = at-loop .before in
+    let at-no-such-column = at-id-offset .before in
+    let start = at-no-such-column .before .before .before in
+    let s = start .args in
     let l = s .layout in
-    let b = (c .before .before .loop) in
-    let m = (c .before .before .before .before .no-such-column) in
-    let o = (c .before .before .before .id-offset) in
-    (c .no-refusal) .ensures ∙ all-fine (fixedAt (l .order) (s .file .now) (m .result) (o .result) (l .start) (l .width)) (s .n) (b .i) ((c .before .loop-test) .left) (b .inv .0) (b .inv .3)
-    ∙ fixed-rows (s .file .now) (s .index .now) l ((c .before .before .before .before .before .before .before .pre) .0) (s .n) (m .result) (o .result) (m .ensures) (o .ensures)
+    let b = at-loop .loop in
+    let m = (at-no-such-column .no-such-column) in
+    let o = (at-id-offset .id-offset) in
+    (c .no-refusal) .ensures ∙ all-fine (fixedAt (l .order) (s .file .now) (m .result) (o .result) (l .start) (l .width)) (s .n) (b .i)
+    (at-loop-test .loop-test .left) (b .inv .0) (b .inv .3)
+    ∙ fixed-rows (s .file .now) (s .index .now) l (start .pre .0) (s .n) (m .result) (o .result) (m .ensures) (o .ensures)
 
 pub judge-fixed-spec : {M : Type 1} → statement M
 judge-fixed-spec =
@@ -104,17 +86,17 @@ judge-fixed-spec =
     (tie.spec
     Inv-loop
     μ-loop
-    no-such-column-requires
-    id-offset-requires
-    cast-start
+    (λ c κs. search needs)
+    (λ c κs. search needs)
+    (λ c. search needs)
     loop-holds
-    add-fixed-bound
-    fixed-bound-requires
-    add-judge-fixed-row
-    judge-fixed-row-requires
+    (λ c. search needs)
+    (λ c κs. search needs)
+    (λ c. search needs)
+    (λ c κs. search needs)
     returns
-    add-i
-    loop-less
+    (λ c. search needs)
+    (λ c. search needs)
     loop-again
-    no-refusal-requires
+    (λ c κs. search needs)
     returns-2)

@@ -1,5 +1,4 @@
 -- `tile::columns::bad_node` meets its contract. The loop's invariant: none of the nodes passed fails.
--- Assumes nothing.
 use mathlib.Core.Path.{sym, ap, _∙_}
 use mathlib.Core.Bool.{Bool}
 use native.Mathlib.Omega.{arith}
@@ -23,50 +22,41 @@ abbrev μ-loop : tie.MeasureT-loop
 loop-holds : tie.Need-loop-holds Inv-loop μ-loop
 loop-holds c = (omega arith, none-start _)
 
-add-is-away : tie.Need-add-is-away Inv-loop μ-loop
-add-is-away c = search needs
-
-mul-is-away : tie.Need-mul-is-away Inv-loop μ-loop
-mul-is-away c = search needs
-
-shared-slice-read-is-away : tie.Need-shared-slice-read-is-away Inv-loop μ-loop
-shared-slice-read-is-away c = search needs
-
 cast-is-away : tie.Need-cast-is-away Inv-loop μ-loop
 cast-is-away c = omega (arith, (c .shared-slice-known4) .given ((c .before .before .loop) .i))
 
-is-away-requires : tie.Need-is-away-requires Inv-loop μ-loop
-is-away-requires c κs = search needs
-
-add-result : tie.Need-add-result Inv-loop μ-loop
-add-result c = search needs
-
 returns : tie.Need-returns Inv-loop μ-loop
 returns c =
-    let a = (c .before .before .before .before .before .before .before .before .args) in
+    let at-is-away = c .before in
+    let at-loop-test = at-is-away .before .before in
+    let at-loop = at-loop-test .before in
+    let start = at-loop .before .before .before .before in
+    let a = start .args in
     let p : ℕ → Bool = λ n. edgeAway (a .start-node .now) (a .end-node .now) n (entry (a .first-edge .now) n) in
-    lowest-next p (length (a .first-edge .now)) ((c .before .before .before .before .loop) .i) ((c .before .before .before .loop-test) .taken) ((c .before .before .before .before .loop) .inv .1)
-    (sym ((c .before .is-away) .ensures ∙ ap (λ (n : ℕ). edgeAway (a .start-node .now) (a .end-node .now) n (getD (a .first-edge .now) ((c .before .before .before .before .loop) .i) 0)) (add-one ((c .before .before .before .before .loop) .i))) ∙ (c .if1) .taken)
-
-add-i : tie.Need-add-i Inv-loop μ-loop
-add-i c = search needs
-
-loop-less : tie.Need-loop-less Inv-loop μ-loop
-loop-less c = search needs
+    lowest-next p (length (a .first-edge .now)) (at-loop .loop .i) (at-loop-test .loop-test .taken) (at-loop .loop .inv .1)
+    (sym (at-is-away .is-away .ensures ∙ ap (λ (n : ℕ). edgeAway (a .start-node .now) (a .end-node .now) n (getD (a .first-edge .now)
+    (at-loop .loop .i) 0)) (add-one (at-loop .loop .i))) ∙ c .if1 .taken)
 
 loop-again : tie.Need-loop-again Inv-loop μ-loop
 loop-again c =
-    let a = (c .before .before .before .before .before .before .before .before .args) in
+    let at-is-away = c .before in
+    let at-loop = at-is-away .before .before .before in
+    let start = at-loop .before .before .before .before in
+    let a = start .args in
     let p : ℕ → Bool = λ n. edgeAway (a .start-node .now) (a .end-node .now) n (entry (a .first-edge .now) n) in (
       omega arith,
-      none-next p ((c .before .before .before .before .loop) .i) ((c .before .before .before .before .loop) .inv .1)
-          (sym ((c .before .is-away) .ensures ∙ ap (λ (n : ℕ). edgeAway (a .start-node .now) (a .end-node .now) n (getD (a .first-edge .now) ((c .before .before .before .before .loop) .i) 0)) (add-one ((c .before .before .before .before .loop) .i))) ∙ (c .if1) .left),
+      none-next p (at-loop .loop .i) (at-loop .loop .inv .1)
+          (sym (at-is-away .is-away .ensures ∙ ap (λ (n : ℕ). edgeAway (a .start-node .now) (a .end-node .now) n (getD (a .first-edge .now)
+          (at-loop .loop .i) 0)) (add-one (at-loop .loop .i))) ∙ c .if1 .left),
     )
 
 returns-2 : tie.Need-returns-2 Inv-loop μ-loop
 returns-2 c =
-    let a = (c .before .before .before .before .before .args) in
-    lowest-ended (λ (n : ℕ). edgeAway (a .start-node .now) (a .end-node .now) n (entry (a .first-edge .now) n)) (length (a .first-edge .now)) ((c .before .loop) .i) ((c .loop-test) .left) ((c .before .loop) .inv .0) ((c .before .loop) .inv .1)
+    let at-loop = c .before in
+    let start = at-loop .before .before .before .before in
+    let a = start .args in
+    lowest-ended (λ (n : ℕ). edgeAway (a .start-node .now) (a .end-node .now) n (entry (a .first-edge .now) n)) (length (a .first-edge .now))
+    (at-loop .loop .i) (c .loop-test .left) (at-loop .loop .inv .0) (at-loop .loop .inv .1)
 
 pub bad-node-spec : {M : Type 1} → statement M
 bad-node-spec =
@@ -75,14 +65,14 @@ bad-node-spec =
     Inv-loop
     μ-loop
     loop-holds
-    add-is-away
-    mul-is-away
-    shared-slice-read-is-away
+    (λ c. search needs)
+    (λ c. search needs)
+    (λ c. search needs)
     cast-is-away
-    is-away-requires
-    add-result
+    (λ c κs. search needs)
+    (λ c. search needs)
     returns
-    add-i
-    loop-less
+    (λ c. search needs)
+    (λ c. search needs)
     loop-again
     returns-2)

@@ -1,5 +1,4 @@
 -- `tile::columns::is_outside` meets its contract: each answer is the branch of the definition with the tests that led to it.
--- Assumes nothing.
 use borrow.Author.Tests.{eq-eqb, ne-eqb, lt-ltb, le-ltb}
 use Rattle.tile.proofs.columns.is_outside.Statement.{statement}
 use Rattle.tile.proofs.columns.is_outside.Tie as tie

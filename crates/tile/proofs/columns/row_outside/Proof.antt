@@ -1,46 +1,46 @@
 -- `tile::columns::row_outside` meets its contract: the first column's number decides, and else the second's.
--- Assumes nothing.
 use borrow.Author.Needs.{needs}
 use Rattle.tile.proofs.columns.row_outside.Statement.{statement}
 use Rattle.tile.proofs.columns.row_outside.Tie as tie
 
-row-requires : tie.Need-row-requires
-row-requires c κs = search needs
-
-cast-is-outside : tie.Need-cast-is-outside
-cast-is-outside c = search needs
-
-is-outside-requires : tie.Need-is-outside-requires
-is-outside-requires c κs = search needs
-
 returns : tie.Need-returns
 returns c = simp (c .if1 .taken, ← c .before .is-outside .ensures, ← c .before .before .row .ensures)
 
-row-requires-2 : tie.Need-row-requires-2
-row-requires-2 c κs = search needs
-
-cast-is-outside-2 : tie.Need-cast-is-outside-2
-cast-is-outside-2 c = search needs
-
-is-outside-requires-2 : tie.Need-is-outside-requires-2
-is-outside-requires-2 c κs = search needs
-
 returns-2 : tie.Need-returns-2
-returns-2 c = simp (c .if2 .taken, ← c .before .is-outside2 .ensures, ← c .before .before .row2 .ensures, c .before .before .before .if1 .left, ← c .before .before .before .before .is-outside .ensures, ← c .before .before .before .before .before .row .ensures)
+returns-2 c =
+    let at-is-outside2 = c .before in
+    let at-row2 = at-is-outside2 .before in
+    let at-if1 = at-row2 .before in
+    let at-is-outside = at-if1 .before in
+    let at-row = at-is-outside .before in
+    simp (
+      c .if2 .taken,
+      ← at-is-outside2 .is-outside2 .ensures,
+      ← at-row2 .row2 .ensures,
+      at-if1 .if1 .left,
+      ← at-is-outside .is-outside .ensures,
+      ← at-row .row .ensures,
+    )
 
 returns-3 : tie.Need-returns-3
-returns-3 c = simp (c .if2 .left, ← c .before .is-outside2 .ensures, ← c .before .before .row2 .ensures, c .before .before .before .if1 .left, ← c .before .before .before .before .is-outside .ensures, ← c .before .before .before .before .before .row .ensures)
+returns-3 c =
+    let at-is-outside2 = c .before in
+    let at-row2 = at-is-outside2 .before in
+    let at-if1 = at-row2 .before in
+    let at-is-outside = at-if1 .before in
+    let at-row = at-is-outside .before in
+    simp (c .if2 .left, ← at-is-outside2 .is-outside2 .ensures, ← at-row2 .row2 .ensures, at-if1 .if1 .left, ← at-is-outside .is-outside .ensures, ← at-row .row .ensures)
 
 pub row-outside-spec : {M : Type 1} → statement M
 row-outside-spec =
     tie.close
     (tie.spec
-    row-requires
-    cast-is-outside
-    is-outside-requires
+    (λ c κs. search needs)
+    (λ c. search needs)
+    (λ c κs. search needs)
     returns
-    row-requires-2
-    cast-is-outside-2
-    is-outside-requires-2
+    (λ c κs. search needs)
+    (λ c. search needs)
+    (λ c κs. search needs)
     returns-2
     returns-3)

@@ -1,5 +1,4 @@
 -- `tile::owners::clear` meets its contract. The loop's invariant: the marks passed are zero, the others as they were.
--- Assumes nothing.
 use mathlib.Core.Path.{_≡_, refl}
 use native.Mathlib.Omega.{arith}
 use Prim.Native.Nat.{_≤_, _<_, _-_}
@@ -20,25 +19,15 @@ abbrev μ-loop : tie.MeasureT-loop
 loop-holds : tie.Need-loop-holds Inv-loop μ-loop
 loop-holds c = (omega arith, refl, refl)
 
-mul-marks : tie.Need-mul-marks Inv-loop μ-loop
-mul-marks c = search needs
-
-slice-write-marks : tie.Need-slice-write-marks Inv-loop μ-loop
-slice-write-marks c = search needs
-
-add-i : tie.Need-add-i Inv-loop μ-loop
-add-i c = search needs
-
-loop-less : tie.Need-loop-less Inv-loop μ-loop
-loop-less c = search needs
-
 loop-again : tie.Need-loop-again Inv-loop μ-loop
 loop-again c =
-    let l : (c .before .loop) .i < length ((c .before .before .args) .marks .now) = omega arith in
-    (omega arith, front-next zeros ((c .before .loop) .i) 0 ((c .before .loop) .marks) ((c .before .before .args) .marks .now) ((c .before .loop) .inv .1) refl l, simp length-set ((c .before .loop) .inv .2))
-
-same-length : tie.Need-same-length Inv-loop μ-loop
-same-length c = search needs
+    let at-loop = c .before in
+    let start = at-loop .before in
+    let l : (at-loop .loop) .i < length (start .args .marks .now) = omega arith in (
+      omega arith,
+      front-next zeros (at-loop .loop .i) 0 (at-loop .loop .marks) (start .args .marks .now) (at-loop .loop .inv .1) refl l,
+      simp length-set (at-loop .loop .inv .2),
+    )
 
 returns : tie.Need-returns Inv-loop μ-loop
 returns c =
@@ -52,10 +41,10 @@ clear-spec =
     Inv-loop
     μ-loop
     loop-holds
-    mul-marks
-    slice-write-marks
-    add-i
-    loop-less
+    (λ c. search needs)
+    (λ c. search needs)
+    (λ c. search needs)
+    (λ c. search needs)
     loop-again
-    same-length
+    (λ c. search needs)
     returns)

@@ -1,5 +1,4 @@
 -- `tile::owners::find` meets its contract. The loop's invariant: none of the marks passed holds the value.
--- Assumes nothing.
 use native.Mathlib.Omega.{arith}
 use Prim.Native.Nat.{ℕ, _≤_, _-_}
 use lib.ListN.{getD}
@@ -21,35 +20,30 @@ abbrev μ-loop : tie.MeasureT-loop
 loop-holds : tie.Need-loop-holds Inv-loop μ-loop
 loop-holds c = (omega arith, none-start _)
 
-mul-if1 : tie.Need-mul-if1 Inv-loop μ-loop
-mul-if1 c = search needs
-
-shared-slice-read-if1 : tie.Need-shared-slice-read-if1 Inv-loop μ-loop
-shared-slice-read-if1 c = search needs
-
-add-result : tie.Need-add-result Inv-loop μ-loop
-add-result c = search needs
-
 returns : tie.Need-returns Inv-loop μ-loop
 returns c =
-    let a = (c .before .before .before .before .args) in
-    lowest-next (λ (s : ℕ). eqb (entry (a .marks .now) s) (a .v)) (a .n) ((c .before .before .before .loop) .i) ((c .before .before .loop-test) .taken) ((c .before .before .before .loop) .inv .1) (eq-eqb (getD (a .marks .now) ((c .before .before .before .loop) .i) 0) (a .v) ((c .if1) .taken))
-
-add-i : tie.Need-add-i Inv-loop μ-loop
-add-i c = search needs
-
-loop-less : tie.Need-loop-less Inv-loop μ-loop
-loop-less c = search needs
+    let at-loop-test = c .before .before in
+    let at-loop = at-loop-test .before in
+    let start = at-loop .before in
+    let a = start .args in
+    lowest-next (λ (s : ℕ). eqb (entry (a .marks .now) s) (a .v)) (a .n) (at-loop .loop .i) (at-loop-test .loop-test .taken) (at-loop .loop .inv .1)
+    (eq-eqb (getD (a .marks .now) (at-loop .loop .i) 0) (a .v) (c .if1 .taken))
 
 loop-again : tie.Need-loop-again Inv-loop μ-loop
 loop-again c =
-    let a = (c .before .before .before .before .args) in
-    (omega arith, none-next (λ (s : ℕ). eqb (entry (a .marks .now) s) (a .v)) ((c .before .before .before .loop) .i) ((c .before .before .before .loop) .inv .1) (ne-eqb (getD (a .marks .now) ((c .before .before .before .loop) .i) 0) (a .v) ((c .if1) .left)))
+    let at-loop = c .before .before .before in
+    let start = at-loop .before in
+    let a = start .args in (
+      omega arith,
+      none-next (λ (s : ℕ). eqb (entry (a .marks .now) s) (a .v)) (at-loop .loop .i) (at-loop .loop .inv .1) (ne-eqb (getD
+          (a .marks .now) (at-loop .loop .i) 0) (a .v) (c .if1 .left)),
+    )
 
 returns-2 : tie.Need-returns-2 Inv-loop μ-loop
 returns-2 c =
     let a = (c .before .before .args) in
-    lowest-ended (λ (s : ℕ). eqb (entry (a .marks .now) s) (a .v)) (a .n) ((c .before .loop) .i) ((c .loop-test) .left) ((c .before .loop) .inv .0) ((c .before .loop) .inv .1)
+    lowest-ended (λ (s : ℕ). eqb (entry (a .marks .now) s) (a .v)) (a .n) ((c .before .loop) .i) ((c .loop-test) .left) ((c .before .loop) .inv .0)
+    ((c .before .loop) .inv .1)
 
 pub find-spec : {M : Type 1} → statement M
 find-spec =
@@ -58,11 +52,11 @@ find-spec =
     Inv-loop
     μ-loop
     loop-holds
-    mul-if1
-    shared-slice-read-if1
-    add-result
+    (λ c. search needs)
+    (λ c. search needs)
+    (λ c. search needs)
     returns
-    add-i
-    loop-less
+    (λ c. search needs)
+    (λ c. search needs)
     loop-again
     returns-2)

@@ -1,5 +1,4 @@
 -- `tile::owners::own` meets its contract. The loop's invariant: the marks hold the owners among the ring rows passed, none of which was taken.
--- Assumes nothing.
 use mathlib.Core.Path.{_≡_, refl, sym, ap, _∙_}
 use native.Mathlib.Omega.{arith}
 use Prim.Native.Nat.{suc, _*_, _≤_, _-_}
@@ -20,54 +19,56 @@ use Rattle.tile.proofs.owners.own.Statement.{statement}
 use Rattle.tile.proofs.owners.own.Tie as tie
 
 abbrev Inv-loop : tie.InvT-loop
-Inv-loop start-node end-node right-face left-face right-edge left-edge fac-id start-edge marks₀ edges r₀ marks r = (r ≤ length fac-id) × (edges ≡ length start-node) × (marks ≡ front (ownerAt (after (columns-of start-node end-node right-face left-face right-edge left-edge)) (2 * length start-node) (startOf (columns-of start-node end-node right-face left-face right-edge left-edge) fac-id start-edge) r) (2 * length start-node) marks₀) × (length marks ≡ length marks₀) × None (alreadyMet (after (columns-of start-node end-node right-face left-face right-edge left-edge)) (2 * length start-node) (startOf (columns-of start-node end-node right-face left-face right-edge left-edge) fac-id start-edge)) r
+Inv-loop start-node end-node right-face left-face right-edge left-edge fac-id start-edge marks₀ edges r₀ marks r = (r ≤ length fac-id) ×
+    (edges ≡ length start-node) × (marks ≡ front (ownerAt (after (columns-of start-node end-node right-face left-face right-edge left-edge))
+    (2 * length start-node) (startOf (columns-of start-node end-node right-face left-face right-edge left-edge) fac-id start-edge) r)
+    (2 * length start-node) marks₀) × (length marks ≡ length marks₀) × None (alreadyMet (after
+    (columns-of start-node end-node right-face left-face right-edge left-edge)) (2 * length start-node) (startOf
+    (columns-of start-node end-node right-face left-face right-edge left-edge) fac-id start-edge)) r
 
 abbrev μ-loop : tie.MeasureT-loop
 μ-loop start-node end-node right-face left-face right-edge left-edge fac-id start-edge marks₀ edges r₀ marks r = length fac-id - r
 
 -- the six columns, as they are at entry
 abbrev columns : tie.Start Inv-loop μ-loop → Edges
-columns s = columns-of (s .args .start-node .now) (s .args .end-node .now) (s .args .right-face .now) (s .args .left-face .now) (s .args .right-edge .now) (s .args .left-edge .now)
+columns s = columns-of (s .args .start-node .now) (s .args .end-node .now) (s .args .right-face .now) (s .args .left-face .now)
+    (s .args .right-edge .now) (s .args .left-edge .now)
 
 known : (s : tie.Start Inv-loop μ-loop) → Painting (columns s) (s .args .fac-id .now) (s .args .start-edge .now)
 known s = painting (columns s) (s .args .fac-id .now) (s .args .start-edge .now) (s .pre .1 .0) (s .pre .1 .1 .0) (s .pre .1 .1 .1 .1)
 
 -- the start that is found is the ring row's
-found : (c : tie.After-side-with Inv-loop μ-loop) → c .side-with .result ≡ startOf (columns (c .before .before .before .before .before .before .before .before .before .before .before .before .before .before .before .before .before .before)) (c .before .before .before .before .before .before .before .before .before .before .before .before .before .before .before .before .before .before .args .fac-id .now) (c .before .before .before .before .before .before .before .before .before .before .before .before .before .before .before .before .before .before .args .start-edge .now) (suc (c .before .before .before .before .loop .r))
-found c = start-is (columns (c .before .before .before .before .before .before .before .before .before .before .before .before .before .before .before .before .before .before)) (c .before .before .before .before .before .before .before .before .before .before .before .before .before .before .before .before .before .before .args .fac-id .now) (c .before .before .before .before .before .before .before .before .before .before .before .before .before .before .before .before .before .before .args .start-edge .now) (c .before .before .before .before .loop .r) (c .side-with .result) (c .before .before .row .result) (c .before .before .row .ensures) (c .side-with .ensures)
+found : (c : tie.After-side-with Inv-loop μ-loop) → c .side-with .result ≡ startOf (columns
+    (c .before .before .before .before .before .before .before .before .before .before .before .before .before .before .before .before .before .before)) (c .before .before .before .before .before .before .before .before .before .before .before .before .before .before .before .before .before .before .args .fac-id .now) (c .before .before .before .before .before .before .before .before .before .before .before .before .before .before .before .before .before .before .args .start-edge .now) (suc (c .before .before .before .before .loop .r))
+found c =
+    let at-row = c .before .before in
+    let at-loop = at-row .before .before in
+    let back-16 = at-loop .before .before .before .before .before .before .before .before .before .before .before .before in
+    let start = back-16 .before .before in
+    start-is (columns (start)) (start .args .fac-id .now) (start .args .start-edge .now) (at-loop .loop .r) (c .side-with .result)
+    (at-row .row .result) (at-row .row .ensures) (c .side-with .ensures)
 
 mul-clear : tie.Need-mul-clear Inv-loop μ-loop
-mul-clear c = omega (arith, (c .before .before .before .before .before .before .before .before .before .before .pre) .0 .0)
+mul-clear c =
+    let start = c .before .before .before .before .before .before .before .before .before .before in
+    omega (arith, start .pre .0 .0)
 
 clear-requires : tie.Need-clear-requires Inv-loop μ-loop
-clear-requires c κs = omega (arith, (c .before .before .before .before .before .before .before .before .before .before .pre) .1 .1 .1 .0)
+clear-requires c κs =
+    let start = c .before .before .before .before .before .before .before .before .before .before in
+    omega (arith, start .pre .1 .1 .1 .0)
 
 loop-holds : tie.Need-loop-holds Inv-loop μ-loop
-loop-holds c = (omega arith, refl, cleared (2 * length ((c .before .before .before .before .before .before .before .before .before .before .before .before .before .args) .start-node .now)) ((c .before .before .before .before .before .before .before .before .before .before .before .before .before .args) .marks .now) ((c .before .before .clear) .last .0) ((c .before .before .clear) .ensures), refl, none-start _)
-
-add-row : tie.Need-add-row Inv-loop μ-loop
-add-row c = search needs
-
-row-requires : tie.Need-row-requires Inv-loop μ-loop
-row-requires c κs = search needs
-
-mul-side-with : tie.Need-mul-side-with Inv-loop μ-loop
-mul-side-with c = search needs
-
-shared-slice-read-side-with : tie.Need-shared-slice-read-side-with Inv-loop μ-loop
-shared-slice-read-side-with c = search needs
-
-side-with-requires : tie.Need-side-with-requires Inv-loop μ-loop
-side-with-requires c κs = search needs
-
-row-requires-2 : tie.Need-row-requires-2 Inv-loop μ-loop
-row-requires-2 c κs = search needs
-
-add-result : tie.Need-add-result Inv-loop μ-loop
-add-result c = search needs
-
-same-length : tie.Need-same-length Inv-loop μ-loop
-same-length c = search needs
+loop-holds c =
+    let at-clear = c .before .before in
+    let start = at-clear .before .before .before .before .before .before .before .before .before .before .before in (
+      omega arith,
+      refl,
+      cleared (2 * length (start .args .start-node .now)) (start .args .marks .now) (at-clear .clear .last .0)
+          (at-clear .clear .ensures),
+      refl,
+      none-start _,
+    )
 
 returns : tie.Need-returns Inv-loop μ-loop
 returns c =
@@ -76,23 +77,48 @@ returns c =
     let fi = s .args .fac-id .now in
     let se = s .args .start-edge .now in
     let m₀ = (c .before .before .before .before .before .before .before .before .before .before .clear) .last .0 in
-    let z = own-taken (after t) (sideCount t) (startOf t fi se) (length fi) ((c .before .before .before .before .before .before .before .loop) .marks) m₀ (known s .into) (known s .starts) ((c .before .before .before .before .before .before .before .loop) .r) ((c .before .before .before .before .before .before .loop-test) .taken) ((c .before .before .before .before .before .before .before .loop) .inv .2) ((c .before .before .before .before .before .before .before .loop) .inv .4)
-    (λ e. (c .if1) .taken ((c .before .row2) .ensures ∙ ap (entry ((c .before .before .before .before .before .before .before .loop) .marks)) (found (c .before .before .before)) ∙ e)) in
-    (z, stopped-at t fi se (s .args .marks .now) ((c .before .before .before .before .before .before .before .loop) .marks) m₀ ((c .before .before .before .before .before .before .before .before .before .before .clear) .ensures) ((c .before .before .before .before .before .before .before .loop) .r) ((c .before .before .before .before .before .before .before .loop) .inv .2) z)
-
-add-r : tie.Need-add-r Inv-loop μ-loop
-add-r c = search needs
+    let z = own-taken (after t) (sideCount t) (startOf t fi se) (length fi)
+    ((c .before .before .before .before .before .before .before .loop) .marks) m₀ (known s .into) (known s .starts)
+    ((c .before .before .before .before .before .before .before .loop) .r)
+    ((c .before .before .before .before .before .before .loop-test) .taken)
+    ((c .before .before .before .before .before .before .before .loop) .inv .2) ((c .before .before .before .before .before .before .before .loop) .inv .4)
+    (λ e. (c .if1) .taken ((c .before .row2) .ensures ∙ ap (entry ((c .before .before .before .before .before .before .before .loop) .marks)) (found
+    (c .before .before .before)) ∙ e)) in (
+      z,
+      stopped-at t fi se (s .args .marks .now) ((c .before .before .before .before .before .before .before .loop) .marks) m₀
+          ((c .before .before .before .before .before .before .before .before .before .before .clear) .ensures)
+          ((c .before .before .before .before .before .before .before .loop) .r) ((c .before .before .before .before .before .before .before .loop) .inv .2) z,
+    )
 
 cast-paint : tie.Need-cast-paint Inv-loop μ-loop
-cast-paint c = omega (arith, (c .before .before .before .before .before .before .before .before .before .before .before .before .before .before .before .before .before .before .before .before .before .pre) .0 .1, (c .before .before .before .before .before .before .loop-test) .taken)
+cast-paint c =
+    let at-loop-test = c .before .before .before .before .before .before in
+    let back-18 = at-loop-test .before .before .before .before .before .before .before .before .before .before .before .before in
+    let start = back-18 .before .before .before in
+    omega (arith, start .pre .0 .1, at-loop-test .loop-test .taken)
 
 paint-requires : tie.Need-paint-requires Inv-loop μ-loop
 paint-requires c κs =
-    let s = c .before .before .before .before .before .before .before .before .before .before .before .before .before .before .before .before .before .before .before .before .before .before in
-    (s .pre .0 .0, (s .pre .1 .0, (s .pre .1 .1 .0, (omega (arith, (c .before .before .before .before .before .before .before .before .loop) .inv .3, (c .before .before .before .before .before .before .before .before .before .before .before .clear) .kept, s .pre .1 .1 .1 .0), rw (found (c .before .before .before .before)) (start-within (columns s) (s .args .fac-id .now) (s .args .start-edge .now) (suc ((c .before .before .before .before .before .before .before .before .loop) .r)))))))
-
-loop-less : tie.Need-loop-less Inv-loop μ-loop
-loop-less c = search needs
+    let s = c .before .before .before .before .before .before .before .before .before .before .before .before .before .before .before .before .before .before .before .before .before .before in (
+      s .pre .0 .0,
+      (
+        s .pre .1 .0,
+        (
+          s .pre .1 .1 .0,
+          (
+            omega (
+              arith,
+              (c .before .before .before .before .before .before .before .before .loop) .inv .3,
+              (c .before .before .before .before .before .before .before .before .before .before .before .clear) .kept,
+              s .pre .1 .1 .1 .0,
+            ),
+            rw (found
+                (c .before .before .before .before)) (start-within (columns s) (s .args .fac-id .now) (s .args .start-edge .now) (suc
+                ((c .before .before .before .before .before .before .before .before .loop) .r))),
+          ),
+        ),
+      ),
+    )
 
 loop-again : tie.Need-loop-again Inv-loop μ-loop
 loop-again c =
@@ -102,17 +128,29 @@ loop-again c =
     let se = s .args .start-edge .now in
     let m₀ = (c .before .before .before .before .before .before .before .before .before .before .before .before .before .before .clear) .last .0 in
     let a = found (c .before .before .before .before .before .before .before) in
-    let z : entry ((c .before .before .before .before .before .before .before .before .before .before .before .loop) .marks) (startOf t fi se (suc ((c .before .before .before .before .before .before .before .before .before .before .before .loop) .r))) ≡ 0 = sym ((c .before .before .before .before .before .row2) .ensures ∙ ap (entry ((c .before .before .before .before .before .before .before .before .before .before .before .loop) .marks)) a) ∙ (c .before .before .before .before .if1) .left in (
+    let z : entry ((c .before .before .before .before .before .before .before .before .before .before .before .loop) .marks) (startOf t fi se (suc
+    ((c .before .before .before .before .before .before .before .before .before .before .before .loop) .r))) ≡ 0 = sym
+    ((c .before .before .before .before .before .row2) .ensures ∙ ap (entry
+    ((c .before .before .before .before .before .before .before .before .before .before .before .loop) .marks)) a) ∙
+    (c .before .before .before .before .if1) .left in (
       omega arith,
       refl,
-      own-turn (after t) (sideCount t) (startOf t fi se) (length fi) ((c .before .before .before .before .before .before .before .before .before .before .before .loop) .marks) m₀ (known s .into) (known s .starts) ((c .before .before .before .before .before .before .before .before .before .before .before .loop) .r) ((c .before .before .before .before .before .before .before .before .before .before .loop-test) .taken) ((c .before .before .before .before .before .before .before .before .before .before .before .loop) .inv .2) ((c .before .before .before .before .before .before .before .before .before .before .before .loop) .inv .4)
+      own-turn (after t) (sideCount t) (startOf t fi se) (length fi)
+          ((c .before .before .before .before .before .before .before .before .before .before .before .loop) .marks) m₀ (known s .into)
+          (known s .starts) ((c .before .before .before .before .before .before .before .before .before .before .before .loop) .r)
+          ((c .before .before .before .before .before .before .before .before .before .before .loop-test) .taken)
+          ((c .before .before .before .before .before .before .before .before .before .before .before .loop) .inv .2)
+          ((c .before .before .before .before .before .before .before .before .before .before .before .loop) .inv .4)
           (known s .inj) (after-zero t) z ((c .before .before .paint) .last .1 .1 .1 .1 .1 .1 .1 .1 .0) (rw a at ((c .before .before .paint) .ensures)),
-      (c .before .before .paint) .kept .1 .1 .1 .1 .1 .1 .1 .1 .0 ∙ (c .before .before .before .before .before .before .before .before .before .before .before .loop) .inv .3,
-      own-next (after t) (sideCount t) (startOf t fi se) (length fi) ((c .before .before .before .before .before .before .before .before .before .before .before .loop) .marks) m₀ (known s .into) (known s .starts) ((c .before .before .before .before .before .before .before .before .before .before .before .loop) .r) ((c .before .before .before .before .before .before .before .before .before .before .loop-test) .taken) ((c .before .before .before .before .before .before .before .before .before .before .before .loop) .inv .2) ((c .before .before .before .before .before .before .before .before .before .before .before .loop) .inv .4) z,
+      (c .before .before .paint) .kept .1 .1 .1 .1 .1 .1 .1 .1 .0 ∙
+          (c .before .before .before .before .before .before .before .before .before .before .before .loop) .inv .3,
+      own-next (after t) (sideCount t) (startOf t fi se) (length fi)
+          ((c .before .before .before .before .before .before .before .before .before .before .before .loop) .marks) m₀ (known s .into)
+          (known s .starts) ((c .before .before .before .before .before .before .before .before .before .before .before .loop) .r)
+          ((c .before .before .before .before .before .before .before .before .before .before .loop-test) .taken)
+          ((c .before .before .before .before .before .before .before .before .before .before .before .loop) .inv .2)
+          ((c .before .before .before .before .before .before .before .before .before .before .before .loop) .inv .4) z,
     )
-
-same-length-2 : tie.Need-same-length-2 Inv-loop μ-loop
-same-length-2 c = search needs
 
 returns-2 : tie.Need-returns-2 Inv-loop μ-loop
 returns-2 c =
@@ -121,9 +159,13 @@ returns-2 c =
     let fi = s .args .fac-id .now in
     let se = s .args .start-edge .now in
     let m₀ = (c .before .before .before .before .clear) .last .0 in
-    let z = lowest-ended (alreadyMet (after t) (sideCount t) (startOf t fi se)) (length fi) ((c .before .loop) .r) ((c .loop-test) .left) ((c .before .loop) .inv .0) ((c .before .loop) .inv .4) in
-    let q : (c .before .loop) .r ≡ length fi = omega arith in
-    (z, stopped-last t fi se (s .args .marks .now) ((c .before .loop) .marks) m₀ ((c .before .before .before .before .clear) .ensures) (rw q at ((c .before .loop) .inv .2)) z)
+    let z = lowest-ended (alreadyMet (after t) (sideCount t) (startOf t fi se)) (length fi) ((c .before .loop) .r) ((c .loop-test) .left)
+    ((c .before .loop) .inv .0) ((c .before .loop) .inv .4) in
+    let q : (c .before .loop) .r ≡ length fi = omega arith in (
+      z,
+      stopped-last t fi se (s .args .marks .now) ((c .before .loop) .marks) m₀ ((c .before .before .before .before .clear) .ensures) (rw q at
+          ((c .before .loop) .inv .2)) z,
+    )
 
 pub own-spec : {M : Type 1} → statement M
 own-spec =
@@ -134,19 +176,19 @@ own-spec =
     mul-clear
     clear-requires
     loop-holds
-    add-row
-    row-requires
-    mul-side-with
-    shared-slice-read-side-with
-    side-with-requires
-    row-requires-2
-    add-result
-    same-length
+    (λ c. search needs)
+    (λ c κs. search needs)
+    (λ c. search needs)
+    (λ c. search needs)
+    (λ c κs. search needs)
+    (λ c κs. search needs)
+    (λ c. search needs)
+    (λ c. search needs)
     returns
-    add-r
+    (λ c. search needs)
     cast-paint
     paint-requires
-    loop-less
+    (λ c. search needs)
     loop-again
-    same-length-2
+    (λ c. search needs)
     returns-2)

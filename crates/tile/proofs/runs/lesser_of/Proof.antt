@@ -1,5 +1,4 @@
 -- `tile::runs::lesser_of` meets its contract: each answer is the branch of the definition with the tests that led to it.
--- Assumes nothing.
 use borrow.Author.Tests.{eq-eqb, le-ltb, lt-ltb, ne-eqb}
 use Rattle.laws.specs.Lowest.{lesser}
 use Rattle.tile.proofs.runs.lesser_of.Statement.{statement}

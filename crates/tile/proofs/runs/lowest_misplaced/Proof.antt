@@ -1,5 +1,4 @@
 -- `tile::runs::lowest_misplaced` meets its contract. The loop's invariant: the least face of the rows passed that begin a run elsewhere.
--- Assumes nothing.
 use mathlib.Core.Path.{_≡_, refl, ap, _∙_}
 use native.Mathlib.Omega.{arith}
 use Prim.Native.Nat.{_≤_, _-_}
@@ -21,23 +20,14 @@ abbrev μ-loop : tie.MeasureT-loop
 loop-holds : tie.Need-loop-holds Inv-loop μ-loop
 loop-holds c = (omega arith, refl)
 
-misplaced-requires : tie.Need-misplaced-requires Inv-loop μ-loop
-misplaced-requires c κs = search needs
-
-lesser-of-requires : tie.Need-lesser-of-requires Inv-loop μ-loop
-lesser-of-requires c κs = search needs
-
-add-i : tie.Need-add-i Inv-loop μ-loop
-add-i c = search needs
-
-loop-less : tie.Need-loop-less Inv-loop μ-loop
-loop-less c = search needs
-
 loop-again : tie.Need-loop-again Inv-loop μ-loop
 loop-again c =
-    let a = (c .before .before .before .before .before .before .args) in
-    let here = c .before .before .before .loop in
-    let face = c .before .misplaced in (
+    let at-misplaced = c .before in
+    let at-loop = at-misplaced .before .before in
+    let start = at-loop .before .before .before in
+    let a = start .args in
+    let here = at-loop .loop in
+    let face = at-misplaced .misplaced in (
       omega arith,
       least-next (beginsElsewhere (a .ring-ptr .now) (a .fac-id .now)) (entry (a .fac-id .now)) (here .i) (here .low)
           (face .result) (c .lesser-of .result) (here .inv .1) (face .ensures) (c .lesser-of .ensures),
@@ -45,9 +35,11 @@ loop-again c =
 
 returns : tie.Need-returns Inv-loop μ-loop
 returns c =
-    let a = (c .before .before .before .before .args) in
-    let q : (c .before .loop) .i ≡ length (a .fac-id .now) = omega arith in
-    (c .before .loop) .inv .1 ∙ ap (least (beginsElsewhere (a .ring-ptr .now) (a .fac-id .now)) (entry (a .fac-id .now))) q
+    let at-loop = c .before in
+    let start = at-loop .before .before .before in
+    let a = start .args in
+    let q : (at-loop .loop) .i ≡ length (a .fac-id .now) = omega arith in
+    (at-loop .loop) .inv .1 ∙ ap (least (beginsElsewhere (a .ring-ptr .now) (a .fac-id .now)) (entry (a .fac-id .now))) q
 
 pub lowest-misplaced-spec : {M : Type 1} → statement M
 lowest-misplaced-spec =
@@ -56,9 +48,9 @@ lowest-misplaced-spec =
     Inv-loop
     μ-loop
     loop-holds
-    misplaced-requires
-    lesser-of-requires
-    add-i
-    loop-less
+    (λ c κs. search needs)
+    (λ c κs. search needs)
+    (λ c. search needs)
+    (λ c. search needs)
     loop-again
     returns)

@@ -1,56 +1,49 @@
 -- `tile::runs::misplaced` meets its contract: the three answers at a ring row.
--- Assumes nothing.
 use native.Mathlib.Omega.{arith}
 use Rattle.tile.proofs.RunLaws.{goes-on-run, begins-here, begins-elsewhere}
 use borrow.Author.Needs.{needs}
 use Rattle.tile.proofs.runs.misplaced.Statement.{statement}
 use Rattle.tile.proofs.runs.misplaced.Tie as tie
 
-mul-face : tie.Need-mul-face
-mul-face c = search needs
-
-shared-slice-read-face : tie.Need-shared-slice-read-face
-shared-slice-read-face c = search needs
-
 cast-face : tie.Need-cast-face
 cast-face c = omega (arith, (c .shared-slice-known3) .given ((c .before .before .before .args) .i))
 
-row-requires : tie.Need-row-requires
-row-requires c κs = search needs
-
-cast-if1 : tie.Need-cast-if1
-cast-if1 c = search needs
-
 returns : tie.Need-returns
-returns c = let a = (c .before .before .before .before .before .args) in goes-on-run (a .ring-ptr .now) (a .fac-id .now) (a .i) ((c .before .row) .result) ((c .before .row) .ensures) ((c .if1) .taken)
-
-row-requires-2 : tie.Need-row-requires-2
-row-requires-2 c κs = search needs
-
-cast-if2 : tie.Need-cast-if2
-cast-if2 c = search needs
-
-add-if2 : tie.Need-add-if2
-add-if2 c = search needs
+returns c =
+    let at-row = c .before in
+    let start = at-row .before .before .before .before in
+    let a = start .args in goes-on-run (a .ring-ptr .now) (a .fac-id .now) (a .i) (at-row .row .result) (at-row .row .ensures) (c .if1 .taken)
 
 returns-2 : tie.Need-returns-2
-returns-2 c = let a = (c .before .before .before .before .before .before .before .args) in begins-here (a .ring-ptr .now) (a .fac-id .now) (a .i) ((c .before .before .before .row) .result) ((c .before .row2) .result) ((c .before .before .before .row) .ensures) ((c .before .before .if1) .left) ((c .before .row2) .ensures) ((c .if2) .taken)
+returns-2 c =
+    let at-row2 = c .before in
+    let at-if1 = at-row2 .before in
+    let at-row = at-if1 .before in
+    let start = at-row .before .before .before .before in
+    let a = start .args in begins-here (a .ring-ptr .now) (a .fac-id .now) (a .i) (at-row .row .result) (at-row2 .row2 .result)
+    (at-row .row .ensures) (at-if1 .if1 .left) (at-row2 .row2 .ensures) (c .if2 .taken)
 
 returns-3 : tie.Need-returns-3
-returns-3 c = let a = (c .before .before .before .before .before .before .before .args) in begins-elsewhere (a .ring-ptr .now) (a .fac-id .now) (a .i) ((c .before .before .before .row) .result) ((c .before .row2) .result) ((c .before .before .before .row) .ensures) ((c .before .before .if1) .left) ((c .before .row2) .ensures) ((c .if2) .left)
+returns-3 c =
+    let at-row2 = c .before in
+    let at-if1 = at-row2 .before in
+    let at-row = at-if1 .before in
+    let start = at-row .before .before .before .before in
+    let a = start .args in begins-elsewhere (a .ring-ptr .now) (a .fac-id .now) (a .i) (at-row .row .result) (at-row2 .row2 .result)
+    (at-row .row .ensures) (at-if1 .if1 .left) (at-row2 .row2 .ensures) (c .if2 .left)
 
 pub misplaced-spec : {M : Type 1} → statement M
 misplaced-spec =
     tie.close
     (tie.spec
-    mul-face
-    shared-slice-read-face
+    (λ c. search needs)
+    (λ c. search needs)
     cast-face
-    row-requires
-    cast-if1
+    (λ c κs. search needs)
+    (λ c. search needs)
     returns
-    row-requires-2
-    cast-if2
-    add-if2
+    (λ c κs. search needs)
+    (λ c. search needs)
+    (λ c. search needs)
     returns-2
     returns-3)

@@ -1,5 +1,4 @@
 -- `tile::sizes::slices_unequal` meets its contract: each answer is the branch of the definition with the tests that led to it.
--- Assumes nothing.
 use borrow.Author.Tests.{eq-eqb, ne-eqb}
 use Rattle.tile.proofs.sizes.slices_unequal.Statement.{statement}
 use Rattle.tile.proofs.sizes.slices_unequal.Tie as tie

@@ -1,5 +1,4 @@
 -- `tile::sizes::too_many` meets its contract: each answer is the branch of the definition with the tests that led to it.
--- Assumes nothing.
 use borrow.Author.Tests.{lt-ltb, le-ltb}
 use Rattle.tile.proofs.sizes.too_many.Statement.{statement}
 use Rattle.tile.proofs.sizes.too_many.Tie as tie

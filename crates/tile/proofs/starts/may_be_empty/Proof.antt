@@ -1,5 +1,4 @@
 -- `tile::starts::may_be_empty` meets its contract: each answer is the branch of the definition with the tests that led to it.
--- Assumes nothing.
 use borrow.Author.Tests.{eq-eqb, ne-eqb}
 use Rattle.tile.proofs.starts.may_be_empty.Statement.{statement}
 use Rattle.tile.proofs.starts.may_be_empty.Tie as tie
@@ -14,10 +13,18 @@ returns-3 : tie.Need-returns-3
 returns-3 c = simp (ne-eqb _ _ (c .if3 .taken), eq-eqb _ _ (c .before .if2 .left), eq-eqb _ _ (c .before .before .if1 .left))
 
 returns-4 : tie.Need-returns-4
-returns-4 c = simp (ne-eqb _ _ (c .if4 .taken), eq-eqb _ _ (c .before .if3 .left), eq-eqb _ _ (c .before .before .if2 .left), eq-eqb _ _ (c .before .before .before .if1 .left))
+returns-4 c =
+    let at-if3 = c .before in
+    let at-if2 = at-if3 .before in
+    let at-if1 = at-if2 .before in
+    simp (ne-eqb _ _ (c .if4 .taken), eq-eqb _ _ (at-if3 .if3 .left), eq-eqb _ _ (at-if2 .if2 .left), eq-eqb _ _ (at-if1 .if1 .left))
 
 returns-5 : tie.Need-returns-5
-returns-5 c = simp (eq-eqb _ _ (c .if4 .left), eq-eqb _ _ (c .before .if3 .left), eq-eqb _ _ (c .before .before .if2 .left), eq-eqb _ _ (c .before .before .before .if1 .left))
+returns-5 c =
+    let at-if3 = c .before in
+    let at-if2 = at-if3 .before in
+    let at-if1 = at-if2 .before in
+    simp (eq-eqb _ _ (c .if4 .left), eq-eqb _ _ (at-if3 .if3 .left), eq-eqb _ _ (at-if2 .if2 .left), eq-eqb _ _ (at-if1 .if1 .left))
 
 pub may-be-empty-spec : {M : Type 1} → statement M
 may-be-empty-spec = tie.close (tie.spec returns returns-2 returns-3 returns-4 returns-5)

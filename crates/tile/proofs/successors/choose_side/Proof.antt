@@ -1,5 +1,4 @@
 -- `tile::successors::choose_side` meets its contract.
--- Assumes nothing.
 use borrow.Author.Tests.{eq-eqb, ne-eqb}
 use borrow.Author.Needs.{needs}
 use Rattle.tile.proofs.successors.choose_side.Statement.{statement}
@@ -8,17 +7,8 @@ use Rattle.tile.proofs.successors.choose_side.Tie as tie
 returns : tie.Need-returns
 returns c = search (eq-eqb, ne-eqb)
 
-mul-result : tie.Need-mul-result
-mul-result c = search needs
-
-sub-result : tie.Need-sub-result
-sub-result c = search needs
-
 returns-2 : tie.Need-returns-2
 returns-2 c = search (eq-eqb, ne-eqb)
-
-mul-result-2 : tie.Need-mul-result-2
-mul-result-2 c = search needs
 
 returns-3 : tie.Need-returns-3
 returns-3 c = search (eq-eqb, ne-eqb)
@@ -26,20 +16,11 @@ returns-3 c = search (eq-eqb, ne-eqb)
 returns-4 : tie.Need-returns-4
 returns-4 c = search (eq-eqb, ne-eqb)
 
-mul-result-3 : tie.Need-mul-result-3
-mul-result-3 c = search needs
-
-sub-result-2 : tie.Need-sub-result-2
-sub-result-2 c = search needs
-
 returns-5 : tie.Need-returns-5
 returns-5 c = search (eq-eqb, ne-eqb)
 
 returns-6 : tie.Need-returns-6
 returns-6 c = search (eq-eqb, ne-eqb)
-
-mul-result-4 : tie.Need-mul-result-4
-mul-result-4 c = search needs
 
 returns-7 : tie.Need-returns-7
 returns-7 c = search (eq-eqb, ne-eqb)
@@ -55,17 +36,17 @@ choose-side-spec =
     tie.close
     (tie.spec
     returns
-    mul-result
-    sub-result
+    (λ c. search needs)
+    (λ c. search needs)
     returns-2
-    mul-result-2
+    (λ c. search needs)
     returns-3
     returns-4
-    mul-result-3
-    sub-result-2
+    (λ c. search needs)
+    (λ c. search needs)
     returns-5
     returns-6
-    mul-result-4
+    (λ c. search needs)
     returns-7
     returns-8
     returns-9)

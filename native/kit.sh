@@ -1,0 +1,20 @@
+# Sourced by the commands of native/, in the project's folder: where the kit's tools for the processor at hand stand, what is not
+# installed installed, and what is not proved proved.
+kit=$(dirname "$(dirname "$(rt doc)")")
+tools=$kit/on/$(uname -m)/toolchain
+lib=$tools/lib
+out=target/native
+mkdir -p "$out"
+
+need() { # COMMAND PACKAGE
+    command -v "$1" >/dev/null && return
+    echo "native: installing $2"
+    apt-get install -y "$2" >/dev/null
+}
+
+prove() { # rt's WORDS: shows what it says only where it fails
+    rt "$@" >"$out/$1.log" 2>&1 || {
+        tail -20 "$out/$1.log"
+        exit 1
+    }
+}
