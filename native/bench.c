@@ -95,7 +95,7 @@ static void loads(void) {
         for (int k = 0; k < 4; k++) files[k] = (table_files){four[k]->file, four[k]->index, four[k]->size, four[k]->index_size};
 #define FOUR(k) four[k]->file, four[k]->size, four[k]->index, four[k]->index_size
 #define LOAD                                                                                                                                \
-    vumbarete_load(FOUR(0), FOUR(1), FOUR(2), FOUR(3), 1000000, c[0], m.length[0], c[1], m.length[1], c[2], m.length[2], c[3], m.length[3], \
+    vumbarete_load(FOUR(0), FOUR(1), FOUR(2), FOUR(3), MOST_ROWS, c[0], m.length[0], c[1], m.length[1], c[2], m.length[2], c[3], m.length[3], \
                    c[4], m.length[4], c[5], m.length[5], c[6], m.length[6], c[7], m.length[7], c[8], m.length[8], c[9], m.length[9])
         vumbarete_loaded v = LOAD;
         size_t E = m.length[0], sum = 0;
@@ -103,7 +103,7 @@ static void loads(void) {
         for (int p = 0; p < 10; p++)
             if (memcmp(c[p], m.column[p], m.length[p] * 4)) fprintf(stderr, "load differs\n"), exit(1);
         int turns = E < 50000 ? 100 : E < 500000 ? 20 : 7;
-        BEST(turns, sum += LOAD.edges, sum += ref_load(files, 1000000, c, m.length).edges, a, b)
+        BEST(turns, sum += LOAD.edges, sum += ref_load(files, MOST_ROWS, c, m.length).edges, a, b)
         sink = sum;
         printf("%-10zu %10.2f %10.2f %7.3f %8.3f\n", E, a / E * 1e9, b / E * 1e9, a / b, last ? a / E / last : 1.0);
         last = a / E;
@@ -181,11 +181,11 @@ static void headers(void) {
         } else {
             begin_table(&big, 'L', "", "-");
             add_column(&big, "id", 'I', "1", 'P', "");
-            while (big.size < 32767 + 4 - 60) {
+            while (big.size < MOST_TEXT + 4 - 60) {
                 big.columns = 1;
                 add_column(&big, "a_column", 'I', "1", 'N', "");
             }
-            size_t rest = 32767 + 4 - big.size - 1 - strlen("z=I,1,N,,-,-,-,:");
+            size_t rest = MOST_TEXT + 4 - big.size - 1 - strlen("z=I,1,N,,-,-,-,:");
             char about[80];
             memset(about, 'x', rest);
             about[rest] = 0;

@@ -277,14 +277,14 @@ static void some_table(made_table *t) {
     if (chance(2000)) { /* L of about 32,767 */
         begin_table(t, 'L', "", "-");
         add_column(t, "id", 'I', "1", 'P', "");
-        while (t->size < 32767 - 60) {
+        while (t->size < MOST_TEXT - 60) {
             char name[16];
             snprintf(name, sizeof name, "c%zu", t->columns % 70);
             t->columns %= 70;
             add_column(t, name, 'I', "1", 'N', "");
         }
         end_header(t);
-        while (t->size < 32767 + 4 + below(3)) t->file[t->size++] = ';';
+        while (t->size < MOST_TEXT + 4 + below(3)) t->file[t->size++] = ';';
         put_number(t->file, t->size - 4, 4, false);
         t->rows = 0;
         return;
@@ -531,7 +531,7 @@ static void limit_case(size_t edges, size_t faces, size_t rings, size_t nodes) {
     size_t need = 2 * edges;
     two_buffers(&ours, &theirs, need + 8);
     tile32 t = lent(&m);
-    bool past = edges > 1000000 || faces > 1000000 || rings > 1000000 || nodes > 1000000;
+    bool past = edges > MOST_ROWS || faces > MOST_ROWS || rings > MOST_ROWS || nodes > MOST_ROWS;
     vumbarete_verdict a = vumbarete_check(COLUMNS(m), ours, need), b = ref_check(&t, theirs, need);
     note(a.number);
     judge(SAME_REFUSAL(a, b) && (a.number == 15) == past && memcmp(ours, theirs, (need + 8) * 4) == 0);
@@ -542,7 +542,7 @@ static void limit_case(size_t edges, size_t faces, size_t rings, size_t nodes) {
 }
 
 static void limits(void) {
-    static const size_t at[2] = {1000000, 1000001};
+    static const size_t at[2] = {MOST_ROWS, MOST_ROWS + 1};
     unsigned long before = failed;
     entry = "limits";
     memset(seen, 0, sizeof seen);
@@ -632,7 +632,7 @@ static void load_case(void) {
         if (chance(60)) space[p] = below(space[p] + 1);
         two_buffers(&ours[p], &theirs[p], space[p] + 4);
     }
-    size_t most = chance(10) ? below(8) : 1000000 + below(2);
+    size_t most = chance(10) ? below(8) : MOST_ROWS + below(2);
     vumbarete_loaded a = vumbarete_load(FOUR(0), FOUR(1), FOUR(2), FOUR(3), most, ours[0], space[0], ours[1], space[1], ours[2], space[2], ours[3],
                                         space[3], ours[4], space[4], ours[5], space[5], ours[6], space[6], ours[7], space[7], ours[8], space[8],
                                         ours[9], space[9]);

@@ -40,7 +40,6 @@ static uint64_t number(const uint8_t *p, int n, bool most) {
 }
 
 #define LARGEST 2147483647u
-#define MOST_ROWS 1000000
 
 vumbarete_triplet_answer ref_triplet(const uint8_t *s, size_t n, bool most) {
     static const int bytes_of[4] = {0, 1, 2, 4};
@@ -97,7 +96,7 @@ typedef struct {
     size_t columns, id;
     bool varies;
     size_t width;
-    ref_column column[64];
+    ref_column column[MOST_COLUMNS];
 } ref_layout;
 
 /* "Bytes are 32 to 126. The first two fields may hold anything but `;`; column fields hold none of `; : , =`." */
@@ -183,7 +182,7 @@ static refusal header_of(const uint8_t *file, size_t n, ref_layout *l) {
     l->most = file[4] == 'M';
     uint64_t length = number(file, 4, l->most);
     if (length + 4 > n) return (refusal){1, n};
-    if (length > 32767) return (refusal){15, 0};
+    if (length > MOST_TEXT) return (refusal){15, 0};
     reader r = {file, 4, 4 + length, false};
     if (r.at < r.end && file[4] != ';') r.at++;
     expect(&r, ';');
@@ -213,13 +212,13 @@ static refusal header_of(const uint8_t *file, size_t n, ref_layout *l) {
         }
         expect(&r, ':');
         columns++;
-        if (columns <= 64) l->column[columns - 1] = c;
+        if (columns <= MOST_COLUMNS) l->column[columns - 1] = c;
         if (!wrong && !r.bad && !right(&c)) wrong = columns;
     } while (!r.bad && !(r.at < r.end && file[r.at] == ';'));
     expect(&r, ';');
     if (r.bad || r.at != r.end) return (refusal){3, r.at};
     if (wrong) return (refusal){4, wrong};
-    if (columns > 64) return (refusal){5, 65};
+    if (columns > MOST_COLUMNS) return (refusal){5, MOST_COLUMNS + 1};
     for (size_t k = 1; k < columns; k++)
         for (size_t j = 0; j < k; j++)
             if (same_name(file + l->column[j].name, l->column[j].name_length, file + l->column[k].name, l->column[k].name_length))
@@ -310,7 +309,7 @@ vumbarete_table_answer ref_open(const uint8_t *file, size_t n, const uint8_t *in
 /* Row i, from 1, of 1..rows: its bytes, where each column's field starts (place[k] of column k + 1), and its judgement. */
 typedef struct {
     size_t start, end;
-    size_t place[64];
+    size_t place[MOST_COLUMNS];
 } ref_fields;
 
 static refusal fields_of(const ref_table *t, size_t i, ref_fields *r) {

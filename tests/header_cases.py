@@ -1,7 +1,7 @@
 """Writes the cases of program header_cases and what it must print for them, from document 01's rules as header_rules.py has them.
 The header texts of documents 01 and 002 and what is known of them are asserted before anything is written."""
 from casefile import Cases, number, refused
-from header_rules import ID, MANY, MOST_TEXT, P1, WIDTHS, Refused, column, fixed_bytes, header, lower, read, row_width, standing, table
+from header_rules import ID, MANY, MOST_COLUMNS, MOST_TEXT, P1, WIDTHS, Refused, column, fixed_bytes, header, lower, read, row_width, standing, table
 
 
 def step(columns, place):
@@ -175,13 +175,14 @@ add("4 before 5 and 6", table(header(column("a"), column("A"), column("b", kind=
 
 # 5: columns and names.
 many = [ID] + [column(f"c{k}", kind="S") for k in range(2, 201)]
-add("64 columns", table(header(*many[:64])), says=(len(header(*many[:64])) + 4, 64, 4 + 63 * 2), name="C64")
-add("65 columns", table(header(*many[:65])), says=refused(5, 65))
-add("64 columns under M", table(header(*many[:64], letter="M")), says=(len(header(*many[:64])) + 4, 64, 4 + 63 * 2), name="c2")
-add("65 columns under M", table(header(*many[:65], letter="M")), says=refused(5, 65))
-add("65 columns, two with one name", table(header(ID, ID, *many[2:65])), says=refused(5, 65))
-add("66 columns, 4 of the last", table(header(*many[:65], column("x", kind="Q"))), says=refused(4, 66))
-add("64 columns, the last named as the first", table(header(*many[:63], column("Id"))), says=refused(5, 64))
+M = MOST_COLUMNS
+add(f"{M} columns", table(header(*many[:M])), says=(len(header(*many[:M])) + 4, M, 4 + (M - 1) * 2), name=f"C{M}")
+add(f"{M + 1} columns", table(header(*many[:M + 1])), says=refused(5, M + 1))
+add(f"{M} columns under M", table(header(*many[:M], letter="M")), says=(len(header(*many[:M])) + 4, M, 4 + (M - 1) * 2), name="c2")
+add(f"{M + 1} columns under M", table(header(*many[:M + 1], letter="M")), says=refused(5, M + 1))
+add(f"{M + 1} columns, two with one name", table(header(ID, ID, *many[2:M + 1])), says=refused(5, M + 1))
+add(f"{M + 2} columns, 4 of the last", table(header(*many[:M + 1], column("x", kind="Q"))), says=refused(4, M + 2))
+add(f"{M} columns, the last named as the first", table(header(*many[:M - 1], column("Id"))), says=refused(5, M))
 add("two names alike", table(header(ID, column("a"), column("b"), column("A"))), says=refused(5, 4))
 add("a b b a", table(header(ID, column("a"), column("b"), column("B"), column("A"))), says=refused(5, 4))
 add("two columns id", table(header(ID, column("ID"))), says=refused(5, 2))
@@ -205,7 +206,7 @@ full = [column(f"{k:02}".ljust(24, "n"), kind="T", count="65535", description="d
 full_id = column("id", key="P", description="d" * 80, value="v" * 12, thematic="t" * 12, narrative="r" * 12)
 longest = header(full_id, *full, description="d" * 80, narrative="n" * 12)
 assert len(longest) == 10055
-add("the longest header", table(longest), says=(len(longest) + 4, 64, 4 + 63 * 65535), to=long)
+add("the longest header", table(longest), says=(len(longest) + 4, M, 4 + (M - 1) * 65535), to=long)
 
 
 def of_length(length):
@@ -220,7 +221,7 @@ def of_length(length):
     return header(*columns)
 
 
-add("L of 32,767", table(of_length(MOST_TEXT)), says=refused(5, 65), to=long)
+add("L of 32,767", table(of_length(MOST_TEXT)), says=refused(5, M + 1), to=long)
 add("L of 32,768", table(of_length(MOST_TEXT + 1)), says=refused(15, 0), to=longer)
 add("L of 32,768 and no header text", table("M" + "x" * MOST_TEXT), says=refused(15, 0))
 

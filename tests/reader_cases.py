@@ -2,7 +2,7 @@
 what each step of a new reader gives and where it stands then, to two steps past the last column, the first two by one reader that is
 held; and two steps from a place that the case names."""
 from casefile import Cases, number, refused
-from header_rules import ID, P1, Refused, column, header, read, standing, table
+from header_rules import ID, MOST_COLUMNS, P1, Refused, column, header, read, standing, table
 
 
 def step(file, place):
@@ -58,10 +58,11 @@ for where, place, known in [("0", 0, refused(13, 0)), ("the first byte of the te
 add("P1 under M, from one past the second's start", table("M" + P1[1:]), P1.index("fac_id") + 5, refused(13, P1.index("fac_id") + 5))
 add("P1 without a letter, from the second", table(P1[1:], rows=bytes(24)), P1.index("fac_id") + 3, "fac_id")
 
-# One column, 64, and names of one byte and of 24.
+# One column, as many as there may be, and names of one byte and of 24.
 add("one column", table(header(ID)), 13, "id")
-many = [ID] + [column(f"c{k}", kind="S", description="d" * k) for k in range(2, 65)]
-add("64 columns, from the last", table(header(*many)), 4 + header(*many).index("c64"), "c64")
+many = [ID] + [column(f"c{k}", kind="S", description="d" * k) for k in range(2, MOST_COLUMNS + 1)]
+last = f"c{MOST_COLUMNS}"
+add(f"{MOST_COLUMNS} columns, from the last", table(header(*many)), 4 + header(*many).index(last), last)
 add("short and long names", table(header(ID, column("n"), column("N" * 24), column("-"))), 4, refused(13, 4))
 
 # A header refusal comes first, whatever the place, and the reader stays.

@@ -106,3 +106,4 @@ us = [k if v is None else f'use {k}.{{{", ".join(v)}}}' for k, v in merged.items
 own = [u for u in us if '·proofs.proofs.' + fn + '.' in u]
 us = [u for u in us if u not in own] + own
 open(p, 'w').write('\n'.join((top or heads) + us + [''] + [l for l in rest]).rstrip().replace('\n\n\n', '\n\n') + '\n')
+subprocess.run([sys.executable, os.path.join(os.path.dirname(os.path.abspath(__file__)), 'restyle.py'), p])

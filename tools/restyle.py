@@ -5,11 +5,12 @@
 - A need that `search needs` answers is answered inside `tie.spec`.
 - Places that an answer looks back to are named once, from the need backwards: `let at-load = c .before .before in`.
 - Names that only help to print goals go.
-- Long lines are broken at a bracket or after a comma; long `use` lines and comments become several.
-Of a source only lines over 200 characters are broken. Files of proofs by hand (crates reader and reader_cases) keep their lines."""
+- The arguments of `tie.spec` and the named places stand several to a line.
+- Long lines are broken where the brackets are fewest, at an arrow, a joint or a bracket; long `use` lines and comments become several.
+Of a source only lines over 200 characters are broken."""
 import re, sys
 
-STEP, WIDTH = 12, 150
+STEP, WIDTH, LONG = 12, 120, 145
 
 
 def blocks(text):
@@ -62,19 +63,53 @@ def named(block):
     return text[:m.end()] + '\n' + '\n'.join('    ' + l for l in lets) + '\n' + '\n'.join(inner)
 
 
+def breaks(s, low, high):
+    """Where a line may be broken: (bracket depth, kind, -place, place); shallow places first, then arrows and `$`, then joints, then brackets."""
+    depth, out = 0, []
+    for i, ch in enumerate(s):
+        if ch in '([{': depth += 1
+        elif ch in ')]}': depth -= 1
+        elif ch == ' ' and low <= i <= high:
+            if s[i - 2:i] == ' $' or s[i + 1:i + 3] == '→ ': out.append((depth, 0, -i, i))
+            elif s[i + 1:i + 3] in ('∷ ', '∙ ', '∵ ', '× ') or s[i - 1] == ',' or re.search(r'λ [^()]*\.$', s[:i]): out.append((depth, 1, -i, i))
+            elif s[i + 1:i + 2] == '(': out.append((depth, 2, -i, i))
+    return out
+
+
 def broken(line):
-    ind = len(line) - len(line.lstrip(' '))
+    """A line of a proof that is too long, as several."""
     s = line.lstrip(' ')
-    if len(line) <= WIDTH + 20 or s.startswith(('use ', '-- ', 'pub ', 'abbrev', 'unfolding')): return [line]
-    if re.match(r'[\w-]+( [\w₀-₉-]+)* =$', s): return [line]
-    cont = ind + 4 if s.startswith('let ') or ind == 0 or re.match(r'[\w-]+[^()]* [=:] ', s) else ind
-    out, lead = [], ind
-    while len(s) + lead > WIDTH + 20:
-        best = -1
-        for m in re.finditer(r' (?=\()|(?<=,) ', s[:WIDTH - lead]): best = m.start()
-        if best < 40: break
-        out.append(' ' * lead + s[:best].rstrip()); s = s[best + 1:]; lead = cont
-    return out + [' ' * lead + s]
+    ind = len(line) - len(s)
+    if len(line) <= LONG or s.startswith(('use ', '-- ', 'unfolding')): return [line]
+    flat = re.sub(r'\([^()]*\)|\{[^{}]*\}', '', re.sub(r'\([^()]*\)', '', s))
+    says = re.match(r'(pub |module |abbrev |unfoldable |let )|[^()]* [:=] ', flat)
+    cont, out = ' ' * (ind + 4 if says else ind), []
+    while len(line) > LONG:
+        at = breaks(line, len(line) - len(line.lstrip(' ')) + 40, WIDTH)
+        if not at: break
+        i = min(at)[3]
+        out.append(line[:i].rstrip()); line = cont + line[i + 1:].lstrip()
+    return out + [line]
+
+
+def packed(text):
+    """The arguments of `tie.spec`, and the places that an answer looks back to, several to a line."""
+    m = re.search(r'^( *)\(tie\.spec$', text, re.M)
+    if m:
+        end = text.find('\n\n', m.end())
+        end = len(text.rstrip('\n')) if end < 0 else end
+        out = [m.group(0)]
+        for a in text[m.end() + 1:end].split('\n'):
+            if len(out[-1]) + 1 + len(a.strip()) <= WIDTH: out[-1] += ' ' + a.strip()
+            else: out.append(m.group(1) + a.strip())
+        text = text[:m.start()] + '\n'.join(out) + text[end:]
+    place = re.compile(r'( +)let [\w·«»-]+ = [\w·-]+( \.[\w·«»-]+)+ in$')
+    out = []
+    for l in text.split('\n'):
+        k = place.match(l)
+        if k and out and re.match(k.group(1) + r'let [^()]* in$', out[-1]) and len(out[-1]) + 1 + len(l.strip()) <= WIDTH: out[-1] += ' ' + l.strip()
+        else: out.append(l)
+    return '\n'.join(out)
 
 
 def wrapped(l):
@@ -123,7 +158,7 @@ for p in sys.argv[1:]:
         continue
     if not p.endswith('Proof.antt') or '(tie.spec' not in t:
         t = re.sub(r'^-- src/\S+\n', '', t, flags=re.M)
-        if '/reader' not in p: t = '\n'.join(x for l in t.split('\n') for x in (broken(l) if len(l) > 200 else [l]))
+        if '/proofs/' in p: t = '\n'.join(x for l in t.split('\n') for x in broken(l))
         t = '\n'.join(x for l in t.split('\n') for x in wrapped(l))
         if t != o: open(p, 'w').write(t)
         continue
@@ -140,7 +175,7 @@ for p in sys.argv[1:]:
             spec = re.sub(r'(?<=\s)%s(?=[\s)])' % re.escape(m.group(1)), lambda _: arg, spec, count=1)
             t = head.replace(m.group(0), '') + sep + spec
     t = '\n'.join(named(b) for b in blocks(t))
-    t = '\n'.join(x for l in t.split('\n') for x in broken(l))
+    t = packed('\n'.join(x for l in t.split('\n') for x in broken(l)))
     t = '\n'.join(x for l in t.split('\n') for x in wrapped(l))
     t = re.sub(r'\n{3,}', '\n\n', t)
     if t != o: open(p, 'w').write(t)

@@ -5,6 +5,9 @@ use Rattle.load.specs.declared.TableName.the-variants.{Edg, Fac, Rng, Cnd}
 use Rattle.load.specs.declared.Finding.{Finding}
 use Rattle.load.specs.declared.Loaded.{Loaded}
 use Rattle.load.specs.declared.Loaded.the-variants.{Tile, Refused}
+use Rattle.load.specs.Sources.{Files}
+use Rattle.load.specs.Columns.{Columns, lengths}
+use Rattle.load.specs.Load.{loadOf, columnsLeft}
 use Rattle.abi.specs.declared.PlainLoaded.{PlainLoaded}
 
 -- the table that a refusal speaks of
@@ -21,3 +24,7 @@ refusedLoad f =
 abbrev pub plainLoaded : Loaded → PlainLoaded
 plainLoaded (Tile c) = record { number = 0; place = 0; table = 0; edges = c .edges; faces = c .faces; rings = c .rings; nodes = c .nodes }
 plainLoaded (Refused f) = refusedLoad f
+
+-- what the load leaves in the ten lent columns
+abbrev pub columnsLoaded : Files → ℕ → Columns → Columns
+columnsLoaded f most l = columnsLeft (loadOf f most (lengths l)) f most l

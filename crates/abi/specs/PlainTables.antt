@@ -19,7 +19,8 @@ use Rattle.table.specs.declared.Row.{Row}
 use Rattle.table.specs.declared.Row.the-variants as row
 use Rattle.table.specs.declared.Value.{Value}
 use Rattle.table.specs.declared.Value.the-variants as value
-use Rattle.opening.specs.Opening.{mostRows, openedOf}
+use Rattle.limits.specs.Limits.{mostRows}
+use Rattle.opening.specs.Opening.{openedOf}
 use Rattle.table.specs.Rows.{rowsRefusal, rowOf}
 use Rattle.table.specs.Values.{valueOf}
 use Rattle.rectangle.specs.Rectangles as rectangle

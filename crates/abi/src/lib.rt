@@ -5,7 +5,6 @@ mod loads;
 mod tables;
 
 use number::Order;
-use refusal::Refusal;
 use tile::Verdict;
 use tile::Walked;
 use triplet::Ids;

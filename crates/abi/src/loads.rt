@@ -1,14 +1,13 @@
 // Four tables to the columns of a tile, for callers that are not Rattle.
 use crate::PlainLoaded;
-use load::Counts;
 use load::Finding;
 use load::Loaded;
 use load::TableName;
 ghost use mathlib.Core.Path.{_≡_};
-ghost use Rattle.load.specs.declared.TableName.the-variants.{Edg, Fac, Rng, Cnd};
 ghost use Rattle.load.specs.Sources.{files};
-ghost use Rattle.load.specs.Load.{loadOf, columnLeft, lengthsOf};
-ghost use Rattle.abi.specs.PlainLoads.{tableNumber, refusedLoad, plainLoaded};
+ghost use Rattle.load.specs.Columns.{columns, lengths};
+ghost use Rattle.load.specs.Load.{loadOf};
+ghost use Rattle.abi.specs.PlainLoads.{tableNumber, refusedLoad, plainLoaded, columnsLoaded};
 
 // The tables by number: 1 edg, 2 fac, 3 rng, 4 cnd.
 fn table_number(name: TableName) -> u32
@@ -78,81 +77,19 @@ pub extern "C" fn vumbarete_load(
     start_edge: &mut [u32],
     first_edge: &mut [u32],
 ) -> PlainLoaded
-    ensures { λ r. ⌜ r ≡ plainLoaded (loadOf (files (now (edg .entry)) (now (edx .entry)) (now (fac .entry))
-        (now (fax .entry)) (now (rng .entry)) (now (rnx .entry)) (now (cnd .entry)) (now (cnx .entry))) most
-        (lengthsOf (now («start_node» .entry)) (now («end_node» .entry)) (now («right_face» .entry))
-        (now («left_face» .entry)) (now («right_edge» .entry)) (now («left_edge» .entry)) (now («ring_ptr» .entry))
-        (now («fac_id» .entry)) (now («start_edge» .entry)) (now («first_edge» .entry)))) ⌝ }
-    ensures { λ _. ⌜ now («start_node» .exit) ≡ columnLeft (loadOf (files (now (edg .entry)) (now (edx .entry))
-        (now (fac .entry)) (now (fax .entry)) (now (rng .entry)) (now (rnx .entry)) (now (cnd .entry))
-        (now (cnx .entry))) most (lengthsOf (now («start_node» .entry)) (now («end_node» .entry))
-        (now («right_face» .entry)) (now («left_face» .entry)) (now («right_edge» .entry)) (now («left_edge» .entry))
-        (now («ring_ptr» .entry)) (now («fac_id» .entry)) (now («start_edge» .entry)) (now («first_edge» .entry))))
-        (files (now (edg .entry)) (now (edx .entry)) (now (fac .entry)) (now (fax .entry)) (now (rng .entry))
-        (now (rnx .entry)) (now (cnd .entry)) (now (cnx .entry))) most Edg 1 (now («start_node» .entry)) ⌝ }
-    ensures { λ _. ⌜ now («end_node» .exit) ≡ columnLeft (loadOf (files (now (edg .entry)) (now (edx .entry))
-        (now (fac .entry)) (now (fax .entry)) (now (rng .entry)) (now (rnx .entry)) (now (cnd .entry))
-        (now (cnx .entry))) most (lengthsOf (now («start_node» .entry)) (now («end_node» .entry))
-        (now («right_face» .entry)) (now («left_face» .entry)) (now («right_edge» .entry)) (now («left_edge» .entry))
-        (now («ring_ptr» .entry)) (now («fac_id» .entry)) (now («start_edge» .entry)) (now («first_edge» .entry))))
-        (files (now (edg .entry)) (now (edx .entry)) (now (fac .entry)) (now (fax .entry)) (now (rng .entry))
-        (now (rnx .entry)) (now (cnd .entry)) (now (cnx .entry))) most Edg 2 (now («end_node» .entry)) ⌝ }
-    ensures { λ _. ⌜ now («right_face» .exit) ≡ columnLeft (loadOf (files (now (edg .entry)) (now (edx .entry))
-        (now (fac .entry)) (now (fax .entry)) (now (rng .entry)) (now (rnx .entry)) (now (cnd .entry))
-        (now (cnx .entry))) most (lengthsOf (now («start_node» .entry)) (now («end_node» .entry))
-        (now («right_face» .entry)) (now («left_face» .entry)) (now («right_edge» .entry)) (now («left_edge» .entry))
-        (now («ring_ptr» .entry)) (now («fac_id» .entry)) (now («start_edge» .entry)) (now («first_edge» .entry))))
-        (files (now (edg .entry)) (now (edx .entry)) (now (fac .entry)) (now (fax .entry)) (now (rng .entry))
-        (now (rnx .entry)) (now (cnd .entry)) (now (cnx .entry))) most Edg 3 (now («right_face» .entry)) ⌝ }
-    ensures { λ _. ⌜ now («left_face» .exit) ≡ columnLeft (loadOf (files (now (edg .entry)) (now (edx .entry))
-        (now (fac .entry)) (now (fax .entry)) (now (rng .entry)) (now (rnx .entry)) (now (cnd .entry))
-        (now (cnx .entry))) most (lengthsOf (now («start_node» .entry)) (now («end_node» .entry))
-        (now («right_face» .entry)) (now («left_face» .entry)) (now («right_edge» .entry)) (now («left_edge» .entry))
-        (now («ring_ptr» .entry)) (now («fac_id» .entry)) (now («start_edge» .entry)) (now («first_edge» .entry))))
-        (files (now (edg .entry)) (now (edx .entry)) (now (fac .entry)) (now (fax .entry)) (now (rng .entry))
-        (now (rnx .entry)) (now (cnd .entry)) (now (cnx .entry))) most Edg 4 (now («left_face» .entry)) ⌝ }
-    ensures { λ _. ⌜ now («right_edge» .exit) ≡ columnLeft (loadOf (files (now (edg .entry)) (now (edx .entry))
-        (now (fac .entry)) (now (fax .entry)) (now (rng .entry)) (now (rnx .entry)) (now (cnd .entry))
-        (now (cnx .entry))) most (lengthsOf (now («start_node» .entry)) (now («end_node» .entry))
-        (now («right_face» .entry)) (now («left_face» .entry)) (now («right_edge» .entry)) (now («left_edge» .entry))
-        (now («ring_ptr» .entry)) (now («fac_id» .entry)) (now («start_edge» .entry)) (now («first_edge» .entry))))
-        (files (now (edg .entry)) (now (edx .entry)) (now (fac .entry)) (now (fax .entry)) (now (rng .entry))
-        (now (rnx .entry)) (now (cnd .entry)) (now (cnx .entry))) most Edg 5 (now («right_edge» .entry)) ⌝ }
-    ensures { λ _. ⌜ now («left_edge» .exit) ≡ columnLeft (loadOf (files (now (edg .entry)) (now (edx .entry))
-        (now (fac .entry)) (now (fax .entry)) (now (rng .entry)) (now (rnx .entry)) (now (cnd .entry))
-        (now (cnx .entry))) most (lengthsOf (now («start_node» .entry)) (now («end_node» .entry))
-        (now («right_face» .entry)) (now («left_face» .entry)) (now («right_edge» .entry)) (now («left_edge» .entry))
-        (now («ring_ptr» .entry)) (now («fac_id» .entry)) (now («start_edge» .entry)) (now («first_edge» .entry))))
-        (files (now (edg .entry)) (now (edx .entry)) (now (fac .entry)) (now (fax .entry)) (now (rng .entry))
-        (now (rnx .entry)) (now (cnd .entry)) (now (cnx .entry))) most Edg 6 (now («left_edge» .entry)) ⌝ }
-    ensures { λ _. ⌜ now («ring_ptr» .exit) ≡ columnLeft (loadOf (files (now (edg .entry)) (now (edx .entry))
-        (now (fac .entry)) (now (fax .entry)) (now (rng .entry)) (now (rnx .entry)) (now (cnd .entry))
-        (now (cnx .entry))) most (lengthsOf (now («start_node» .entry)) (now («end_node» .entry))
-        (now («right_face» .entry)) (now («left_face» .entry)) (now («right_edge» .entry)) (now («left_edge» .entry))
-        (now («ring_ptr» .entry)) (now («fac_id» .entry)) (now («start_edge» .entry)) (now («first_edge» .entry))))
-        (files (now (edg .entry)) (now (edx .entry)) (now (fac .entry)) (now (fax .entry)) (now (rng .entry))
-        (now (rnx .entry)) (now (cnd .entry)) (now (cnx .entry))) most Fac 7 (now («ring_ptr» .entry)) ⌝ }
-    ensures { λ _. ⌜ now («fac_id» .exit) ≡ columnLeft (loadOf (files (now (edg .entry)) (now (edx .entry))
-        (now (fac .entry)) (now (fax .entry)) (now (rng .entry)) (now (rnx .entry)) (now (cnd .entry))
-        (now (cnx .entry))) most (lengthsOf (now («start_node» .entry)) (now («end_node» .entry))
-        (now («right_face» .entry)) (now («left_face» .entry)) (now («right_edge» .entry)) (now («left_edge» .entry))
-        (now («ring_ptr» .entry)) (now («fac_id» .entry)) (now («start_edge» .entry)) (now («first_edge» .entry))))
-        (files (now (edg .entry)) (now (edx .entry)) (now (fac .entry)) (now (fax .entry)) (now (rng .entry))
-        (now (rnx .entry)) (now (cnd .entry)) (now (cnx .entry))) most Rng 8 (now («fac_id» .entry)) ⌝ }
-    ensures { λ _. ⌜ now («start_edge» .exit) ≡ columnLeft (loadOf (files (now (edg .entry)) (now (edx .entry))
-        (now (fac .entry)) (now (fax .entry)) (now (rng .entry)) (now (rnx .entry)) (now (cnd .entry))
-        (now (cnx .entry))) most (lengthsOf (now («start_node» .entry)) (now («end_node» .entry))
-        (now («right_face» .entry)) (now («left_face» .entry)) (now («right_edge» .entry)) (now («left_edge» .entry))
-        (now («ring_ptr» .entry)) (now («fac_id» .entry)) (now («start_edge» .entry)) (now («first_edge» .entry))))
-        (files (now (edg .entry)) (now (edx .entry)) (now (fac .entry)) (now (fax .entry)) (now (rng .entry))
-        (now (rnx .entry)) (now (cnd .entry)) (now (cnx .entry))) most Rng 9 (now («start_edge» .entry)) ⌝ }
-    ensures { λ _. ⌜ now («first_edge» .exit) ≡ columnLeft (loadOf (files (now (edg .entry)) (now (edx .entry))
-        (now (fac .entry)) (now (fax .entry)) (now (rng .entry)) (now (rnx .entry)) (now (cnd .entry))
-        (now (cnx .entry))) most (lengthsOf (now («start_node» .entry)) (now («end_node» .entry))
-        (now («right_face» .entry)) (now («left_face» .entry)) (now («right_edge» .entry)) (now («left_edge» .entry))
-        (now («ring_ptr» .entry)) (now («fac_id» .entry)) (now («start_edge» .entry)) (now («first_edge» .entry))))
-        (files (now (edg .entry)) (now (edx .entry)) (now (fac .entry)) (now (fax .entry)) (now (rng .entry))
-        (now (rnx .entry)) (now (cnd .entry)) (now (cnx .entry))) most Cnd 10 (now («first_edge» .entry)) ⌝ }
+    ensures { λ r. ⌜ r ≡ plainLoaded (loadOf (files (now (edg .entry)) (now (edx .entry)) (now (fac .entry)) (now (fax .entry))
+        (now (rng .entry)) (now (rnx .entry)) (now (cnd .entry)) (now (cnx .entry))) most
+        (lengths (columns (now («start_node» .entry)) (now («end_node» .entry)) (now («right_face» .entry)) (now («left_face» .entry))
+        (now («right_edge» .entry)) (now («left_edge» .entry)) (now («ring_ptr» .entry)) (now («fac_id» .entry))
+        (now («start_edge» .entry)) (now («first_edge» .entry))))) ⌝ }
+    ensures { λ _. ⌜ columns (now («start_node» .exit)) (now («end_node» .exit)) (now («right_face» .exit)) (now («left_face» .exit))
+        (now («right_edge» .exit)) (now («left_edge» .exit)) (now («ring_ptr» .exit)) (now («fac_id» .exit))
+        (now («start_edge» .exit)) (now («first_edge» .exit))
+        ≡ columnsLoaded (files (now (edg .entry)) (now (edx .entry)) (now (fac .entry)) (now (fax .entry))
+        (now (rng .entry)) (now (rnx .entry)) (now (cnd .entry)) (now (cnx .entry))) most
+        (columns (now («start_node» .entry)) (now («end_node» .entry)) (now («right_face» .entry)) (now («left_face» .entry))
+        (now («right_edge» .entry)) (now («left_edge» .entry)) (now («ring_ptr» .entry)) (now («fac_id» .entry))
+        (now («start_edge» .entry)) (now («first_edge» .entry))) ⌝ }
 {
     plain_loaded(load::load(
         edg,

@@ -27,7 +27,11 @@ module _ (c : Coordinates) where
   at-unfit : (i : ℕ) → At (unfit c) (count c) i → boundsOf c ≡ refused (refusal notFiniteOrNone i)
   unfolding boundsOf
   at-unfit i h =
-      rw (ne-eqb (count c) 0 (λ z. omega (arith, h .pos, h .within)), lowest-is (unfit c) (count c) i (h .pos) (h .within) (h .passes) (h .below), ne-eqb i 0 (λ z. omega (arith, h .pos)))
+      rw (
+        ne-eqb (count c) 0 (λ z. omega (arith, h .pos, h .within)),
+        lowest-is (unfit c) (count c) i (h .pos) (h .within) (h .passes) (h .below),
+        ne-eqb i 0 (λ z. omega (arith, h .pos)),
+      )
 
   at-end : 0 < count c → None (unfit c) (count c) → boundsOf c ≡ within (rectangleOf c (count c))
   unfolding boundsOf
@@ -60,7 +64,8 @@ module _ (c : Coordinates) where
   meant : Means (boundsOf c)
   meant = by (eq-zero-or-pos (count c)) (lowest-cases (unfit c) (count c))
     where
-      by : (count c ≡ 0) ⊎ (0 < count c) → ((lowest (unfit c) (count c) ≡ 0) × None (unfit c) (count c)) ⊎ At (unfit c) (count c) (lowest (unfit c) (count c)) → Means (boundsOf c)
+      by : (count c ≡ 0) ⊎ (0 < count c) → ((lowest (unfit c) (count c) ≡ 0) × None (unfit c) (count c)) ⊎ At (unfit c)
+          (count c) (lowest (unfit c) (count c)) → Means (boundsOf c)
       by (inl z) h = rw (at-none z) (inl (z, refl))
       by (inr p) (inl h) = rw (at-end p (h .1)) (accepted p (h .1), refl)
       by (inr p) (inr h) = rw (at-unfit (lowest (unfit c) (count c)) h) (inr (lowest (unfit c) (count c), h, refl))

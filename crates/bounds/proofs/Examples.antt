@@ -19,7 +19,13 @@ examples =
     -- (-0, 1.5) and (0, 2): the zeros tie, and the earliest keeps its sign
     (
       coordinates binary32 Two Least (0 ∷ 0 ∷ 0 ∷ 128 ∷ 0 ∷ 0 ∷ 192 ∷ 63 ∷ 0 ∷ 0 ∷ 0 ∷ 0 ∷ 0 ∷ 0 ∷ 0 ∷ 64 ∷ []),
-      within (record { least-x = fin true 0 (pos 0); least-y = fin false 3 (negsuc 0); greatest-x = fin true 0 (pos 0); greatest-y = fin false 1 (pos 1) }),
+      within (record {
+        least-x = fin true 0 (pos 0);
+        least-y = fin false 3 (negsuc 0);
+        greatest-x = fin true 0
+            (pos 0);
+        greatest-y = fin false 1 (pos 1);
+      }),
     )
     -- (1, 2, NaN): z is free
     ∷ (

@@ -54,7 +54,9 @@ finite-number nan e = absurd (false≢true e)
 finite-number (inf s) e = absurd (false≢true e)
 finite-number (fin s m d) e = tt
 
-pub bits-kept : (f : Format) (o : Order) (s : List ℕ) (place : ℕ) → AreBytes s → place + partBytes f ≤ length s → finite (partAt f o s place) ≡ true → toBits f (partAt f o s place) ≡ number o s place (partBytes f)
+pub bits-kept : (f : Format) (o : Order) (s : List ℕ) (place : ℕ) → AreBytes s → place + partBytes f ≤ length s
+    → finite (partAt f o s place) ≡ true → toBits f (partAt f o s place) ≡ number o s place (partBytes f)
 unfolding partAt
 bits-kept f o s place a h e =
-    toBits-ofBits f (number o s place (partBytes f)) (rw (all-patterns f) at (number-small o s place (partBytes f) a h)) (finite-number (ofBits f (number o s place (partBytes f))) e)
+    toBits-ofBits f (number o s place (partBytes f)) (rw (all-patterns f) at (number-small o s place (partBytes f) a h))
+    (finite-number (ofBits f (number o s place (partBytes f))) e)

@@ -43,7 +43,8 @@ coordinate-pos binary32 Three = omega arith
 coordinate-pos binary64 Two = omega arith
 coordinate-pos binary64 Three = omega arith
 
-pub count-exact : (f : Format) (p : Parts) (o : Order) (s : List ℕ) (n : ℕ) → length s ≡ n * (partCount p * partBytes f) → count (coordinates f p o s) ≡ n
+pub count-exact : (f : Format) (p : Parts) (o : Order) (s : List ℕ) (n : ℕ) → length s ≡ n * (partCount p * partBytes f)
+    → count (coordinates f p o s) ≡ n
 unfolding count
 count-exact f p o s n e = rw e (mul-div-cancel n (coordinate-pos f p))
 
@@ -59,7 +60,8 @@ unmade x y true false e = refl
 unmade x y false b e = refl
 
 -- a coordinate from the patterns x and y that were read
-module _ (f : Format) (o : Order) (s : List ℕ) (place x y : ℕ) (ex : x ≡ number o s place (partBytes f)) (ey : y ≡ number o s (place + partBytes f) (partBytes f)) where
+module _ (f : Format) (o : Order) (s : List ℕ) (place x y : ℕ) (ex : x ≡ number o s place (partBytes f))
+    (ey : y ≡ number o s (place + partBytes f) (partBytes f)) where
   by-parts : pointAt f o s place ≡ point (ofBits f x) (ofBits f y)
   unfolding pointAt partAt
   by-parts = rw (← ex, ← ey)
@@ -104,7 +106,8 @@ module _ (c : Coordinates) (i place : ℕ) (here : place ≡ i * c .stride) wher
         }
 
   -- a coordinate that is not finite
-  pub bounds-stop : pointAt (c .format) (c .order) (c .bytes) place ≡ notFinite → None (unfit c) i → i < count c → refused (refusal notFiniteOrNone (i + 1)) ≡ boundsOf c
+  pub bounds-stop : pointAt (c .format) (c .order) (c .bytes) place ≡ notFinite → None (unfit c) i → i < count c
+      → refused (refusal notFiniteOrNone (i + 1)) ≡ boundsOf c
   unfolding boundsOf unfit
   bounds-stop e h l =
       let u : unfit c (suc i) ≡ true = unmade (xOf c (suc i)) (yOf c (suc i)) (finite (xOf c (suc i))) (finite (yOf c (suc i))) (sym same ∙ e) in
@@ -124,7 +127,8 @@ module _ (c : Coordinates) where
         bounds = rw (foremost-one lt (xOf c), foremost-one lt (yOf c), ← f .1, ← f .2);
       }
 
-  pub bounds-stop-first : pointAt (c .format) (c .order) (c .bytes) 0 ≡ notFinite → 0 < count c → refused (refusal notFiniteOrNone 1) ≡ boundsOf c
+  pub bounds-stop-first : pointAt (c .format) (c .order) (c .bytes) 0 ≡ notFinite → 0 < count c
+      → refused (refusal notFiniteOrNone 1) ≡ boundsOf c
   bounds-stop-first e l = bounds-stop c 0 0 start e (none-start (unfit c)) l
 
 -- all coordinates are read

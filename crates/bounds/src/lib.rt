@@ -2,6 +2,7 @@
 // earliest coordinate winning a tie. In f32 and in f64: the code of the two widths differs in the names and numbers of the
 // width alone, and the definitions and laws are stated over the width.
 use number::Order;
+use refusal::NOT_FINITE;
 use refusal::Refusal;
 ghost use mathlib.Core.Path.{_≡_};
 ghost use Prim.Native.Nat.{_+_, _≤_, _<_};
@@ -9,9 +10,6 @@ ghost use lib.Ieee.{binary32, binary64, lt};
 ghost use lib.ListN.{length};
 ghost use Rattle.laws.specs.Foremost.{foremostOfTwo, reversed};
 ghost use Rattle.bounds.specs.Bounds.{partCount, strided, coordinates, count, boundsOf, Reached, pointAt, extended, rectangle32, point32, bounds32, rectangle64, point64, bounds64};
-
-// Refusal 12: x or y not finite, or no coordinates.
-const NOT_FINITE_OR_NONE: u32 = 12;
 
 // x y, or x y z.
 pub enum Parts {
@@ -114,7 +112,7 @@ fn further32(bytes: &[u8], stride: usize, order: Order, first: Rectangle32) -> B
                 rectangle = extend32(rectangle, x, y);
             }
             Point32::NotFinite => {
-                return Bounds32::Refused(refusal::refuse(NOT_FINITE_OR_NONE, i + 1));
+                return Bounds32::Refused(refusal::refuse(NOT_FINITE, i + 1));
             }
         }
         i += 1;
@@ -128,7 +126,7 @@ pub fn find_bounds32(bytes: &[u8], parts: Parts, order: Order) -> Bounds32
 {
     let stride = part_count(parts) * 4;
     if bytes.len() < stride {
-        return Bounds32::Refused(refusal::refuse(NOT_FINITE_OR_NONE, 0));
+        return Bounds32::Refused(refusal::refuse(NOT_FINITE, 0));
     }
     match read_point32(bytes, 0, order) {
         Point32::At(x, y) => further32(
@@ -142,7 +140,7 @@ pub fn find_bounds32(bytes: &[u8], parts: Parts, order: Order) -> Bounds32
                 greatest_y: y,
             },
         ),
-        Point32::NotFinite => Bounds32::Refused(refusal::refuse(NOT_FINITE_OR_NONE, 1)),
+        Point32::NotFinite => Bounds32::Refused(refusal::refuse(NOT_FINITE, 1)),
     }
 }
 
@@ -232,7 +230,7 @@ fn further64(bytes: &[u8], stride: usize, order: Order, first: Rectangle64) -> B
                 rectangle = extend64(rectangle, x, y);
             }
             Point64::NotFinite => {
-                return Bounds64::Refused(refusal::refuse(NOT_FINITE_OR_NONE, i + 1));
+                return Bounds64::Refused(refusal::refuse(NOT_FINITE, i + 1));
             }
         }
         i += 1;
@@ -246,7 +244,7 @@ pub fn find_bounds64(bytes: &[u8], parts: Parts, order: Order) -> Bounds64
 {
     let stride = part_count(parts) * 8;
     if bytes.len() < stride {
-        return Bounds64::Refused(refusal::refuse(NOT_FINITE_OR_NONE, 0));
+        return Bounds64::Refused(refusal::refuse(NOT_FINITE, 0));
     }
     match read_point64(bytes, 0, order) {
         Point64::At(x, y) => further64(
@@ -260,6 +258,6 @@ pub fn find_bounds64(bytes: &[u8], parts: Parts, order: Order) -> Bounds64
                 greatest_y: y,
             },
         ),
-        Point64::NotFinite => Bounds64::Refused(refusal::refuse(NOT_FINITE_OR_NONE, 1)),
+        Point64::NotFinite => Bounds64::Refused(refusal::refuse(NOT_FINITE, 1)),
     }
 }

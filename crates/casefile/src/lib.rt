@@ -1,11 +1,14 @@
 // A file of test cases: read whole, and taken apart field by field. A field is two bytes of length, the least significant
-// first, and so many bytes; a field that runs past the file's end is cut there, so that any bytes are a file of cases.
+// first, and so many bytes; a field that runs past the file's end is cut there, so that any bytes are a file of cases. And what the
+// programs of cases say alike. What a program writes is no value that a contract can speak of: it is held to the file `stdout` beside it.
 ghost use mathlib.Core.Path.{_≡_};
 ghost use Prim.Native.Nat.{_+_, _≤_, min};
 ghost use lib.ListN.{length};
 ghost use Rattle.io.specs.Counts.{Counts};
 ghost use Rattle.casefile.specs.Fields.{startOf, endOf, fieldAt};
+use libc::STDOUT_FILENO;
 use number::Order;
+use refusal::Refusal;
 
 // The bytes of a field's length.
 const LENGTH_BYTES: usize = 2;
@@ -60,4 +63,45 @@ pub fn field(file: &[u8], at: usize) -> &[u8]
     let from = start(file, at);
     let to = after(file, at);
     &file[from..to]
+}
+
+// ---- sayings
+
+pub fn say(text: &[u8]) {
+    io::write_all(STDOUT_FILENO, text);
+}
+
+pub fn say_number(n: u64) {
+    io::print_decimal(STDOUT_FILENO, n);
+}
+
+pub fn say_refusal(bad: Refusal) {
+    say(b"refused ");
+    say_number(bad.number as u64);
+    say(b" at ");
+    say_number(bad.place as u64);
+}
+
+// A byte as two hexadecimal digits.
+fn say_byte(b: u8) {
+    io::print_hex(STDOUT_FILENO, b as u64, 2);
+}
+
+pub fn say_bytes(bytes: &[u8]) {
+    let mut i = 0;
+    while i < bytes.len() {
+        say_byte(bytes[i]);
+        i += 1;
+    }
+}
+
+// The bytes of a file from start to end; nothing where they are not there.
+pub fn say_part(file: &[u8], start: usize, end: usize) {
+    if file.len() < end {
+        return;
+    }
+    if end < start {
+        return;
+    }
+    say(&file[start..end]);
 }

@@ -35,15 +35,16 @@ use Rattle.tile.specs.Check as check
 use Rattle.tile.specs.Walk.{walkOf, sidesWritten}
 use Rattle.tile.specs.Facts as facts
 use Rattle.tile.proofs.RefusedExactly as tile
-use Rattle.report.specs.declared.AtFault.{AtFault}
-use Rattle.report.specs.declared.AtFault.the-variants.{Is, Nothing}
+use Rattle.directory.specs.declared.AtFault.{AtFault}
+use Rattle.directory.specs.declared.AtFault.the-variants.{Is, Nothing}
 use Rattle.report.specs.declared.FileName.{FileName}
-use Rattle.report.specs.declared.Sizes.{Sizes}
-use Rattle.report.specs.Files.{fileOfVerdict}
+use Rattle.directory.specs.declared.Sizes.{Sizes}
+use Rattle.directory.specs.Concerned.{fileOfVerdict}
 use Rattle.directory.specs.declared.Named.{Named}
 use Rattle.directory.specs.declared.Outcome.{Outcome}
 use Rattle.directory.specs.declared.Outcome.the-variants as outcome
-use Rattle.directory.specs.Columns.{Columns, held, shortOf}
+use Rattle.load.specs.Columns.{Columns}
+use Rattle.directory.specs.Columns.{held, shortOf}
 use Rattle.directory.specs.Files.{Directory, filesRead}
 use Rattle.directory.specs.Outcome.{named, unlessAtFault, tileSaid, loadedOf, columnsAfter, checkedFrom, checkedAs, checkedOf, marksChecked, thenChecked, outcomeOf}
 use Rattle.demands.specs.Numbers.{Among, ofLoad, ofCheck, ofDirectory}
@@ -111,20 +112,24 @@ directory-load-unchanged z d lengths w e l = ap (λ (o : Outcome). columnsAfter 
 -- a check that is refused: counts that the columns cannot have, or the check's own refusal
 refused-from : (c : Counts) (t : Tile) (w : Named) (v : Verdict) → checkedFrom c t v ≡ outcome.Refused w → v ≡ verdict.Refused (w .refusal)
 refused-from c t w verdict.Accepted e = clash (cc)
-refused-from c t w (verdict.Refused q) e = let h : named (fileOfVerdict (t .facId) (F t) q) q ≡ w = cc in ap (λ (x : Named). verdict.Refused (x .refusal)) h
+refused-from c t w (verdict.Refused q) e = let h : named (fileOfVerdict (t .facId) (F t) q) q ≡ w = cc in ap
+    (λ (x : Named). verdict.Refused (x .refusal)) h
 
-check-refused : (c : Counts) (t : Tile) (space : ℕ) (w : Named) → checkedAs c t space ≡ outcome.Refused w → verdictOf t space ≡ verdict.Refused (w .refusal)
+check-refused : (c : Counts) (t : Tile) (space : ℕ) (w : Named) → checkedAs c t space ≡ outcome.Refused w
+    → verdictOf t space ≡ verdict.Refused (w .refusal)
 unfolding checkedAs
 check-refused c t space w e = refused-from c t w (verdictOf t space) e
 
 module _ (c : Counts) (l : Columns) (space : ℕ) (w : Named) where
   refused-by : (x : AtFault) → shortOf c l ≡ x → unlessAtFault x (checkedAs c (held c l) space) ≡ outcome.Refused w
-      → ((n : FileName) × (shortOf c l ≡ Is n) × (w .refusal .number ≡ 15)) ⊎ ((shortOf c l ≡ Nothing) × (verdictOf (held c l) space ≡ verdict.Refused (w .refusal)))
+      → ((n : FileName) × (shortOf c l ≡ Is n) × (w .refusal .number ≡ 15)) ⊎
+      ((shortOf c l ≡ Nothing) × (verdictOf (held c l) space ≡ verdict.Refused (w .refusal)))
   refused-by (Is n) s e = let h : named n (refusal 15 0) ≡ w = cc in inl (n, s, sym (ap (λ (x : Named). x .refusal .number) h))
   refused-by Nothing s e = inr (s, check-refused c (held c l) space w e)
 
   stages : checkedOf c l space ≡ outcome.Refused w
-      → ((n : FileName) × (shortOf c l ≡ Is n) × (w .refusal .number ≡ 15)) ⊎ ((shortOf c l ≡ Nothing) × (verdictOf (held c l) space ≡ verdict.Refused (w .refusal)))
+      → ((n : FileName) × (shortOf c l ≡ Is n) × (w .refusal .number ≡ 15)) ⊎
+      ((shortOf c l ≡ Nothing) × (verdictOf (held c l) space ≡ verdict.Refused (w .refusal)))
   unfolding checkedOf
   stages e = refused-by (shortOf c l) refl e
 
@@ -138,10 +143,12 @@ module _ (c : Counts) (l : Columns) (marks : List ℕ) (w : Named) (e : checkedO
   directory-check-unchanged h =
       ⊎-elim (λ x. rw (x .1) refl) (λ x. rw (x .0) (check-unchanged (held c l) marks (w .refusal) (x .1) h)) (stages c l (length marks) w e)
 
-  pub directory-check-zeroed : 20 ≤ w .refusal .number → (marksChecked c l marks ≡ front zeros (sides (held c l)) marks) × (sides (held c l) ≤ length marks)
+  pub directory-check-zeroed : 20 ≤ w .refusal .number
+      → (marksChecked c l marks ≡ front zeros (sides (held c l)) marks) × (sides (held c l) ≤ length marks)
   unfolding marksChecked
   directory-check-zeroed h =
-      ⊎-elim (λ x. absurd (omega (arith, x .2))) (λ x. rw (x .0) (check-zeroed (held c l) marks (w .refusal) (x .1) h)) (stages c l (length marks) w e)
+      ⊎-elim (λ x. absurd (omega (arith, x .2))) (λ x. rw (x .0) (check-zeroed (held c l) marks (w .refusal) (x .1) h))
+      (stages c l (length marks) w e)
 
 -- ---- a directory judged whole
 
@@ -154,4 +161,5 @@ then-named t space w (outcome.Refused v) h e = also ofLoad ofDirectory (w .refus
 pub directory-numbers : (z : Sizes) (d : Directory) (lengths : List ℕ) (space : ℕ) (w : Named) → outcomeOf z d lengths space ≡ outcome.Refused w
     → Among ofDirectory (w .refusal .number)
 unfolding outcomeOf
-directory-numbers z d lengths space w e = then-named (tileSaid (filesRead d)) space w (loadedOf z d lengths) (directory-load-numbers z d lengths) e
+directory-numbers z d lengths space w e = then-named (tileSaid (filesRead d)) space w (loadedOf z d lengths)
+    (directory-load-numbers z d lengths) e

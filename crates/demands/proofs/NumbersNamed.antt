@@ -74,8 +74,7 @@ use Rattle.side.specs.Edges.{Edges}
 use Rattle.side.specs.Edges as side
 use Rattle.side.specs.Successor.{successor, Fault, no-touch, other-face, both-sides}
 use Rattle.side.proofs.SuccessorExactly.{Says, says}
-use Rattle.tile.specs.declared.Moves.{Moves}
-use Rattle.tile.specs.declared.Moves.the-variants.{Back, Open, Stuck}
+use Rattle.tile.specs.Walk.{Moves, Back, Open, Stuck}
 use Rattle.tile.specs.declared.Walked.{Walked}
 use Rattle.tile.specs.declared.Walked.the-variants as walked
 use Rattle.tile.specs.declared.Verdict.the-variants as verdict
@@ -92,10 +91,12 @@ use Rattle.load.specs.Sources.{Files, fileOf, indexOf}
 use Rattle.load.specs.Load.{loadOf}
 use Rattle.load.specs.Words as load
 use Rattle.load.proofs.LoadedExactly as load-proofs
-use Rattle.report.specs.declared.Sizes.{Sizes}
-use Rattle.report.specs.declared.AtFault.{AtFault}
-use Rattle.report.specs.declared.AtFault.the-variants.{Is, Nothing}
-use Rattle.report.specs.Files.{mostRows, tooLarge, fileOfFinding}
+use Rattle.directory.specs.declared.Sizes.{Sizes}
+use Rattle.directory.specs.declared.AtFault.{AtFault}
+use Rattle.directory.specs.declared.AtFault.the-variants.{Is, Nothing}
+use Rattle.limits.specs.Limits.{programRows}
+use Rattle.directory.specs.Files.{tooLarge}
+use Rattle.directory.specs.Concerned.{fileOfFinding}
 use Rattle.directory.specs.declared.Named.{Named}
 use Rattle.directory.specs.declared.Outcome.the-variants as outcome
 use Rattle.directory.specs.Files.{Directory, cnxRead, filesRead, sizesTaken}
@@ -151,7 +152,7 @@ header-named file header.text-fits n p w = one-of ofHeader n 1 (w .0) refl
 header-named file header.text-limit n p w = one-of ofHeader n 15 (w .0) refl
 header-named file header.in-grammar n p w = one-of ofHeader n 3 (w .0) refl
 header-named file header.columns-sound n p w = one-of ofHeader n 4 (w .0) refl
-header-named file header.at-most-64 n p w = one-of ofHeader n 5 (w .0) refl
+header-named file header.columns-limit n p w = one-of ofHeader n 5 (w .0) refl
 header-named file header.names-differ n p w = one-of ofHeader n 5 (w .0) refl
 header-named file header.one-id n p w = one-of ofHeader n 6 (w .0) refl
 
@@ -179,13 +180,15 @@ step-numbers file place q e =
     (λ c.
     let u : step.Refused r ≡ step.Refused q = rw c at e in
     let v : r ≡ q = cc in
-    let w = header-proofs.refused-exactly file (q .number) (q .place) .0 (v, λ z. eqb-false (r .number) 0 c (ap (λ (x : Refusal). x .number) v ∙ z)) in
+    let w = header-proofs.refused-exactly file (q .number) (q .place) .0
+    (v, λ z. eqb-false (r .number) 0 c (ap (λ (x : Refusal). x .number) v ∙ z)) in
     inr (header-named file (w .test) (q .number) (q .place) (w .fails)))
 
 pub reader-numbers : (r : Reader) (q : Refusal) → gives r ≡ step.Refused q → Among ofStep (q .number)
 reader-numbers r q e = step-numbers (now (r .file)) (r .at) q e
 
-opening-named : (file index : List ℕ) (most : ℕ) (x : opening-words.Test) (n p : ℕ) → opening-words.FailsAt file index most x n p → Among ofOpening n
+opening-named : (file index : List ℕ) (most : ℕ) (x : opening-words.Test) (n p : ℕ)
+    → opening-words.FailsAt file index most x n p → Among ofOpening n
 opening-named file index most opening-words.header-accepted n p w = also ofHeader ofOpening n refl (header-named file (w .test) n p (w .fails))
 opening-named file index most opening-words.index-there n p w = one-of ofOpening n 8 (w .0) refl
 opening-named file index most opening-words.rows-few n p w = one-of ofOpening n 15 (w .0) refl
@@ -194,7 +197,8 @@ opening-named file index most opening-words.index-head n p w = one-of ofOpening 
 opening-named file index most opening-words.entries n p w = one-of ofOpening n 8 (w .0) refl
 opening-named file index most opening-words.last-end n p w = one-of ofOpening n 8 (w .0) refl
 
-pub opening-numbers : (file index : List ℕ) (most : ℕ) (q : Refusal) → openedOf file index most .answer ≡ answer.Refused q → Among ofOpening (q .number)
+pub opening-numbers : (file index : List ℕ) (most : ℕ) (q : Refusal)
+    → openedOf file index most .answer ≡ answer.Refused q → Among ofOpening (q .number)
 opening-numbers file index most q e =
     let w = opening.answer-refused-exactly file index most (q .number) (q .place) .0 e in
     opening-named file index most (w .test) (q .number) (q .place) (w .fails)
@@ -215,11 +219,13 @@ module _ (s : List ℕ) (l : Layout) (start end i : ℕ) where
   fields-listed =
       let p = columnPlace s l start end (l .id) in
       let x = reach s l start end (columnsOf l) in
-      either ofRow (needsIndex l) (usedUp x end i (idRefusal s l p i)) (idRefusal s l p i) (used-up-listed x end i (idRefusal s l p i) (id-listed p)) (id-listed p)
+      either ofRow (needsIndex l) (usedUp x end i (idRefusal s l p i)) (idRefusal s l p i)
+      (used-up-listed x end i (idRefusal s l p i) (id-listed p)) (id-listed p)
 
   place-listed : Listed ofRow (placeRefusal s l start end i)
   place-listed =
-      either ofRow (outside s start end) (refusal 10 i) (refusedIf (noSuchColumn l (l .id)) 9 i) (inr (one-of ofRow 10 10 refl refl)) (if-refused ofRow (noSuchColumn l (l .id)) 9 i refl)
+      either ofRow (outside s start end) (refusal 10 i) (refusedIf (noSuchColumn l (l .id)) 9 i)
+      (inr (one-of ofRow 10 10 refl refl)) (if-refused ofRow (noSuchColumn l (l .id)) 9 i refl)
 
   row-listed : Listed ofRow (rowRefusal s l start end i)
   unfolding rowRefusal
@@ -267,16 +273,21 @@ either-value false x y u v = v
 triplet-value : (o : Order) (b : List ℕ) (x : read.Triplet) → tripletOf o b ≡ x → ValueListed (tripletOfRead x)
 triplet-value o b (read.the-variants.Is ids n) e q u = clash (cc)
 triplet-value o b (read.the-variants.Refused r) e q u =
-    let v : r ≡ q = cc in also ofTriplet ofValue (q .number) refl (subst (λ (r : Refusal). Among ofTriplet (r .number)) v (triplet-numbers o b r e))
+    let v : r ≡ q = cc in also ofTriplet ofValue (q .number) refl
+    (subst (λ (r : Refusal). Among ofTriplet (r .number)) v (triplet-numbers o b r e))
 
 module _ (o : Order) (s : List ℕ) (c : ColumnLayout) (p end : ℕ) where
   type-value : (x : FieldType) → ValueListed (byType x o s c p end)
   type-value type.Text = λ q e. clash (cc)
   type-value type.Latin = λ q e. clash (cc)
-  type-value type.Float = let b = number o s p 4 in either-value (floatIsNull b) (value.FloatNull b) (value.Float b) (λ q e. clash (cc)) (λ q e. clash (cc))
-  type-value type.Double = let b = number o s p 8 in either-value (doubleIsNull b) (value.DoubleNull b) (value.Double b) (λ q e. clash (cc)) (λ q e. clash (cc))
-  type-value type.Short = let b = number o s p 2 in either-value (shortIsNull b) value.ShortNull (value.Short (signed shortHalf b)) (λ q e. clash (cc)) (λ q e. clash (cc))
-  type-value type.Integer = let b = number o s p 4 in either-value (integerIsNull b) value.IntegerNull (value.Integer (signed integerHalf b)) (λ q e. clash (cc)) (λ q e. clash (cc))
+  type-value type.Float = let b = number o s p 4 in either-value (floatIsNull b) (value.FloatNull b) (value.Float b)
+      (λ q e. clash (cc)) (λ q e. clash (cc))
+  type-value type.Double = let b = number o s p 8 in either-value (doubleIsNull b) (value.DoubleNull b) (value.Double b)
+      (λ q e. clash (cc)) (λ q e. clash (cc))
+  type-value type.Short = let b = number o s p 2 in either-value (shortIsNull b) value.ShortNull
+      (value.Short (signed shortHalf b)) (λ q e. clash (cc)) (λ q e. clash (cc))
+  type-value type.Integer = let b = number o s p 4 in either-value (integerIsNull b) value.IntegerNull
+      (value.Integer (signed integerHalf b)) (λ q e. clash (cc)) (λ q e. clash (cc))
   type-value type.ShortPair = λ q e. clash (cc)
   type-value type.ShortTriple = λ q e. clash (cc)
   type-value type.DoublePair = λ q e. clash (cc)
@@ -289,7 +300,8 @@ module _ (o : Order) (s : List ℕ) (c : ColumnLayout) (p end : ℕ) where
   unfolding shown
   shown-value = type-value (c .kind)
 
-in-row-value : (x : Row) (f : ℕ → ℕ → Value) → ((q : Refusal) → x ≡ row.Refused q → Among ofValue (q .number)) → ((a b : ℕ) → ValueListed (f a b)) → ValueListed (inRow x f)
+in-row-value : (x : Row) (f : ℕ → ℕ → Value) → ((q : Refusal) → x ≡ row.Refused q → Among ofValue (q .number))
+    → ((a b : ℕ) → ValueListed (f a b)) → ValueListed (inRow x f)
 in-row-value (row.Between a b) f h g = g a b
 in-row-value (row.Refused r) f h g = λ q e. let v : r ≡ q = cc in h q (ap row.Refused v)
 
@@ -303,12 +315,14 @@ value-numbers file index t i k =
     let f : ℕ → ℕ → Value = λ start end. shown (l .order) file (columnAt l k) (columnPlace file l start end k) end in
     either-value (noSuchRow t i) _ _ (no-such-value i)
     (either-value (noSuchColumn l k) _ _ (no-such-value k)
-    (in-row-value (rowOf file index t i) f (row-numbers file index t i) (λ a b. shown-value (l .order) file (columnAt l k) (columnPlace file l a b k) b)))
+    (in-row-value (rowOf file index t i) f (row-numbers file index t i)
+    (λ a b. shown-value (l .order) file (columnAt l k) (columnPlace file l a b k) b)))
 
 pub bounds-numbers : (c : Coordinates) (q : Refusal) → boundsOf c ≡ refused q → Among ofBounds (q .number)
 bounds-numbers c q e = inl (bounds.refused-number c q e)
 
-pub rectangle-numbers : (file index : List ℕ) (t : Table) (i k : ℕ) (q : Refusal) → rectangleOf file index t i k ≡ refusedWith q → Among ofRectangle (q .number)
+pub rectangle-numbers : (file index : List ℕ) (t : Table) (i k : ℕ) (q : Refusal)
+    → rectangleOf file index t i k ≡ refusedWith q → Among ofRectangle (q .number)
 rectangle-numbers file index t i k q e =
     ⊎-elim (λ w. one-of ofRectangle (q .number) 13 (w .1) refl)
     (⊎-elim (λ w. one-of ofRectangle (q .number) 13 (w .2) refl)
@@ -329,13 +343,15 @@ module _ (f : Files) (most : ℕ) (lengths : List ℕ) (q : Finding) where
 
   load-named : (x : load.Test) → load.FailsWith f most lengths x q → Among ofLoad (q .refusal .number)
   load-named (load.opened n) w =
-      also ofOpening ofLoad (q .refusal .number) refl (opening-named (fileOf f n) (indexOf f n) most (w .1 .test) (q .refusal .number) (q .refusal .place) (w .1 .fails))
+      also ofOpening ofLoad (q .refusal .number) refl
+      (opening-named (fileOf f n) (indexOf f n) most (w .1 .test) (q .refusal .number) (q .refusal .place) (w .1 .fails))
   load-named load.columns-there w = one-of ofLoad (q .refusal .number) 17 (found-number _ (w .2)) refl
   load-named load.faces-some w = one-of ofLoad (q .refusal .number) 15 (found-number _ (w .1)) refl
   load-named load.rings-some w = one-of ofLoad (q .refusal .number) 15 (found-number _ (w .1)) refl
   load-named load.room-enough w = one-of ofLoad (q .refusal .number) 14 (found-number _ (w .2)) refl
   load-named (load.rows-right n) w =
-      row-named (fileOf f n) (load.layoutIn f n) (load.rowStart f n (w .0)) (load.rowEnd f n (w .0)) (w .0) (q .refusal .number) (q .refusal .place) (w .3)
+      row-named (fileOf f n) (load.layoutIn f n) (load.rowStart f n (w .0)) (load.rowEnd f n (w .0)) (w .0)
+      (q .refusal .number) (q .refusal .place) (w .3)
 
   pub load-numbers : loadOf f most lengths ≡ loaded.Refused q → Among ofLoad (q .refusal .number)
   load-numbers e = let w = load-proofs.refused-exactly f most lengths q .0 e in load-named (w .test) (w .fails)
@@ -374,7 +390,8 @@ check-numbers t space q e =
 -- what is wrong at a side
 side-named : (l : List ℕ) → hasAll l ofSuccessor ≡ true → (t : Edges) (s n : ℕ) → Says t s (Wrong n) → Among l n
 side-named l h t s n =
-    ⊎-elim (λ w. also ofSuccessor l n h (one-of ofSuccessor n 22 (w .0) refl)) (λ w. also ofSuccessor l n h (fault-named ofSuccessor refl t s n (w .1)))
+    ⊎-elim (λ w. also ofSuccessor l n h (one-of ofSuccessor n 22 (w .0) refl))
+    (λ w. also ofSuccessor l n h (fault-named ofSuccessor refl t s n (w .1)))
 
 pub successor-numbers : (t : Edges) (s n : ℕ) → successor t s ≡ Wrong n → Among ofSuccessor n
 successor-numbers t s n e = side-named ofSuccessor refl t s n (subst (Says t s) e (says t s))
@@ -384,7 +401,8 @@ module _ (t : Edges) (a : ℕ) where
   on-move-named : (s : ℕ) (g : ℕ → Moves) → ((u : ℕ) (q : Refusal) → g u ≡ Stuck q → Among ofWalk (q .number))
       → (x : Successor) → Says t s x → (q : Refusal) → onMove s x g ≡ Stuck q → Among ofWalk (q .number)
   on-move-named s g rest (Side u) h q e = rest u q e
-  on-move-named s g rest (Wrong n) h q e = let v : stuckAt n s ≡ q = cc in subst (λ (r : Refusal). Among ofWalk (r .number)) v (side-named ofWalk refl t s n h)
+  on-move-named s g rest (Wrong n) h q e = let v : stuckAt n s ≡ q = cc in subst
+      (λ (r : Refusal). Among ofWalk (r .number)) v (side-named ofWalk refl t s n h)
 
   stuck-named : (fuel s k : ℕ) (q : Refusal) → movesFrom t a fuel s k ≡ Stuck q → Among ofWalk (q .number)
   stuck-named zero s k q e = clash (cc)
@@ -423,17 +441,17 @@ walk-numbers t r space =
 
 -- ---- a directory loaded
 
-load-named-by : (f : Files) (lengths : List ℕ) (cnxRead : Bool) (w : Named) (x : AtFault) (l : Loaded) → loadOf f mostRows lengths ≡ l
+load-named-by : (f : Files) (lengths : List ℕ) (cnxRead : Bool) (w : Named) (x : AtFault) (l : Loaded) → loadOf f programRows lengths ≡ l
     → unlessAtFault x (loadedAs cnxRead l) ≡ outcome.Refused w → Among ofLoad (w .refusal .number)
 load-named-by f lengths cnxRead w (Is n) l g e =
     let h : named n (refusal 15 0) ≡ w = cc in one-of ofLoad (w .refusal .number) 15 (sym (ap (λ (x : Named). x .refusal .number) h)) refl
 load-named-by f lengths cnxRead w Nothing (loaded.Tile c) g e = clash (cc)
 load-named-by f lengths cnxRead w Nothing (loaded.Refused q) g e =
     let h : named (fileOfFinding cnxRead q) (q .refusal) ≡ w = cc in
-    subst (λ (x : Named). Among ofLoad (x .refusal .number)) h (load-numbers f mostRows lengths q g)
+    subst (λ (x : Named). Among ofLoad (x .refusal .number)) h (load-numbers f programRows lengths q g)
 
 pub directory-load-numbers : (z : Sizes) (d : Directory) (lengths : List ℕ) (w : Named) → loadedOf z d lengths ≡ outcome.Refused w
     → Among ofLoad (w .refusal .number)
 unfolding loadedOf
 directory-load-numbers z d lengths w e =
-    load-named-by (filesRead d) lengths (cnxRead d) w (tooLarge (sizesTaken z d) (cnxRead d)) (loadOf (filesRead d) mostRows lengths) refl e
+    load-named-by (filesRead d) lengths (cnxRead d) w (tooLarge (sizesTaken z d) (cnxRead d)) (loadOf (filesRead d) programRows lengths) refl e

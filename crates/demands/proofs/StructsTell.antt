@@ -34,7 +34,8 @@ use Rattle.header.specs.declared.Layout.{Layout}
 use Rattle.header.specs.Layouts.{headerOf}
 use Rattle.opening.specs.declared.Opened.{Opened}
 use Rattle.opening.specs.declared.Table.{Table}
-use Rattle.opening.specs.Opening.{mostRows, openedOf}
+use Rattle.limits.specs.Limits.{mostRows}
+use Rattle.opening.specs.Opening.{openedOf}
 use Rattle.table.specs.declared.Row.{Row}
 use Rattle.table.specs.declared.Row.the-variants as row
 use Rattle.table.specs.declared.Value.{Value}
@@ -214,7 +215,8 @@ module _ (file index : List ℕ) where
   rectangle-in-numbers : (i k : ℕ) (q : Refusal) → rectangleIn file index i k ≡ refusedWith q → Among (ofRectangle ++ ofOpening) (q .number)
   unfolding rectangleIn
   rectangle-in-numbers i k q e =
-      rectangle-under (table .answer) (rectangleOf file index (table .table) i k) refl (numbers.rectangle-numbers file index (table .table) i k) q e
+      rectangle-under (table .answer) (rectangleOf file index (table .table) i k) refl
+      (numbers.rectangle-numbers file index (table .table) i k) q e
 
   -- every row judged
   rows-struct : (a : Answer) (q : Refusal) → rowsUnder a q (table .table) ≡ opened (withRows a q) (table .table)

@@ -64,9 +64,10 @@ use Rattle.tile.specs.Walk.{walkOf, stepsOf, allSteps, sideAfter, ringSteps, ri
 use Rattle.tile.specs.Demand.{Demand3 as Walked}
 use Rattle.tile.proofs.StartExactly.{start-side-exactly}
 use Rattle.tile.proofs.WalkExactly as walk
-use Rattle.report.specs.declared.AtFault.{AtFault}
-use Rattle.report.specs.declared.Sizes.{Sizes}
-use Rattle.report.specs.Files.{mostRows, hasTriplet, showsTriplet}
+use Rattle.directory.specs.declared.AtFault.{AtFault}
+use Rattle.directory.specs.declared.Sizes.{Sizes}
+use Rattle.limits.specs.Limits.{programRows, programSides}
+use Rattle.directory.specs.Files.{hasTriplet, showsTriplet}
 use Rattle.report.specs.Lines.{refuseLine}
 use Rattle.directory.specs.declared.Named.{Named}
 use Rattle.directory.specs.declared.Outcome.the-variants.{Accepted, Refused}
@@ -76,7 +77,7 @@ use Rattle.directory.specs.Words.{AcceptedWith}
 use Rattle.directory.proofs.OutcomeLaws.{held-said, loaded-checked}
 use Rattle.directory.proofs.SizesInWords.{sizes-exactly}
 use Rattle.directory.proofs.VerdictOfTile as directory
-use Rattle.teller.specs.Text.{mostSides, ownColumns, acceptedText, textOf}
+use Rattle.teller.specs.Text.{ownColumns, acceptedText, textOf}
 use Rattle.demands.specs.Demand1.{Demand1}
 use Rattle.demands.specs.Demand2.{ColumnsMean, tableWith, RowRight, SuccessorMeans, WalkMeans, DirectoryMeans, Demand2}
 use Rattle.demands.specs.Demand3.{DirectoryWalked, TextTold, Demand3}
@@ -142,7 +143,8 @@ columns-mean file h a =
 module _ (file index : List ℕ) (most : ℕ) (h : Reading) (n : ℕ) (o : Opens file index most h n) (i : ℕ) (r : In n i) where
   coordinates-of-field : (right : RowRight file index i) (k : ℕ) → In (layoutOf file .columns) k
       → (f : Format) (p : Parts) → columnAt (layoutOf file) k .kind ≡ typeWith f p
-      → count (line file index (tableWith file n) i k f p) ≡ coordinatesSaid (layoutOf file .order) file (layoutAt (layoutOf file) k) (right .place k)
+      → count (line file index (tableWith file n) i k f p) ≡ coordinatesSaid (layoutOf file .order) file
+      (layoutAt (layoutOf file) k) (right .place k)
   coordinates-of-field right k c f p e =
       coordinates-counted file index most h n o i r right k c f p e
       ∙ ap (coordinatesSaid (layoutOf file .order) file (layoutAt (layoutOf file) k))
@@ -175,7 +177,8 @@ cnx-read-exactly d = (
 )
 
 -- what is written of a refused directory
-refused-text : (z : Sizes) (d : Directory) (w : Named) → outcomeOf z d ownColumns mostSides ≡ Refused w → textOf z d ≡ refuseLine (w .file) (w .refusal)
+refused-text : (z : Sizes) (d : Directory) (w : Named) → outcomeOf z d ownColumns programSides ≡ Refused w
+    → textOf z d ≡ refuseLine (w .file) (w .refusal)
 unfolding textOf
 refused-text z d w e = rw e refl
 
@@ -285,8 +288,9 @@ module _ (z : Sizes) (d : Directory) (lengths marks : List ℕ) (c : Counts) (e 
   load-answered : loadedOf z d lengths ≡ Accepted c
   unfolding loadedOf
   load-answered =
-      ap (λ (x : AtFault). unlessAtFault x (loadedAs (cnxRead d) (loadOf (filesRead d) mostRows lengths))) (sizes-exactly z d .1 (in-words .sizes))
-      ∙ ap (loadedAs (cnxRead d)) (load.loaded-exactly (filesRead d) mostRows lengths c .1 (in-words .loads))
+      ap (λ (x : AtFault). unlessAtFault x (loadedAs (cnxRead d) (loadOf (filesRead d) programRows lengths)))
+      (sizes-exactly z d .1 (in-words .sizes))
+      ∙ ap (loadedAs (cnxRead d)) (load.loaded-exactly (filesRead d) programRows lengths c .1 (in-words .loads))
 
   walked : DirectoryWalked z d lengths marks c
   walked =
@@ -310,16 +314,16 @@ module _ (z : Sizes) (d : Directory) (lengths marks : List ℕ) (c : Counts) (e 
             ap (allSteps t space) (sym rings) ∙ w .adds-up space (rw twice h) ∙ twice;
       }
 
-  edges-few : c .edges ≤ mostRows
+  edges-few : c .edges ≤ programRows
   edges-few = in-words .loads .opens Edg .1 .as-asked
 
 -- its text: the program's own marks are as long as two sides to an edge ask
-module _ (z : Sizes) (d : Directory) (c : Counts) (e : outcomeOf z d ownColumns mostSides ≡ Accepted c) where
+module _ (z : Sizes) (d : Directory) (c : Counts) (e : outcomeOf z d ownColumns programSides ≡ Accepted c) where
   abbrev marks : List ℕ
-  marks = replicate mostSides 0
+  marks = replicate programSides 0
 
   with-marks : outcomeOf z d ownColumns (length marks) ≡ Accepted c
-  with-marks = let q : length marks ≡ mostSides = length-replicate {A = ℕ} mostSides 0 in rw q e
+  with-marks = let q : length marks ≡ programSides = length-replicate {A = ℕ} programSides 0 in rw q e
 
   abbrev w : DirectoryWalked z d ownColumns marks c
   w = walked z d ownColumns marks c with-marks
@@ -330,10 +334,10 @@ module _ (z : Sizes) (d : Directory) (c : Counts) (e : outcomeOf z d ownColumns 
       let f = filesRead d in
       let few = edges-few z d ownColumns marks c with-marks in
       record {
-        text = rw (e, w .reported mostSides (omega (arith, few))) refl;
+        text = rw (e, w .reported programSides (omega (arith, few))) refl;
         ring-steps = λ r i.
             let j : In (R (tileSaid f)) r = (i .0, omega (arith, i .1, w .counts-rings)) in
-            let long : length marks ≡ mostSides = length-replicate {A = ℕ} mostSides 0 in
+            let long : length marks ≡ programSides = length-replicate {A = ℕ} programSides 0 in
             let room : length (ringSides (tileSaid f) r) ≤ length marks =
             omega (arith, list-few (tileSaid f) marks (w .walks) r j, few, w .counts-edges, long) in
             ap stepsOf (ap (walkOf (tileSaid f) r) (sym long) ∙ w .walks .walks r j .given-room marks room .0);

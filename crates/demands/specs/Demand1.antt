@@ -52,10 +52,11 @@ use Rattle.tile.specs.declared.Verdict.the-variants as verdict
 use Rattle.tile.specs.declared.Walked.the-variants as walked
 use Rattle.tile.specs.Check.{verdictOf, marksAfter}
 use Rattle.tile.specs.Walk.{walkOf, sidesWritten}
-use Rattle.report.specs.declared.Sizes.{Sizes}
+use Rattle.directory.specs.declared.Sizes.{Sizes}
 use Rattle.directory.specs.declared.Named.{Named}
 use Rattle.directory.specs.declared.Outcome.the-variants as outcome
-use Rattle.directory.specs.Columns.{Columns, held}
+use Rattle.load.specs.Columns.{Columns}
+use Rattle.directory.specs.Columns.{held}
 use Rattle.directory.specs.Files.{Directory, filesRead}
 use Rattle.directory.specs.Outcome.{loadedOf, columnsAfter, checkedOf, marksChecked, outcomeOf}
 use Rattle.demands.specs.Numbers.{Among, NoneOrAmong, ofWave, ofTriplet, ofWriting, ofHeader, ofStep, ofOpening, ofRow}

@@ -74,14 +74,15 @@ use Rattle.tile.specs.Check.{verdictOf}
 use Rattle.tile.specs.Walk.{walkOf, sidesWritten}
 use Rattle.tile.specs.WalkWords as walk
 use Rattle.tile.specs.Facts as tile
-use Rattle.report.specs.declared.Sizes.{Sizes}
+use Rattle.directory.specs.declared.Sizes.{Sizes}
 use Rattle.report.specs.Lines.{refuseLine}
 use Rattle.directory.specs.declared.Named.{Named}
 use Rattle.directory.specs.declared.Outcome.the-variants as outcome
 use Rattle.directory.specs.Files.{Directory, cnxRead}
 use Rattle.directory.specs.Outcome.{outcomeOf}
 use Rattle.directory.specs.Words as directory
-use Rattle.teller.specs.Text.{ownColumns, mostSides, textOf}
+use Rattle.limits.specs.Limits.{programSides}
+use Rattle.teller.specs.Text.{ownColumns, textOf}
 
 -- ======== HEADERS
 
@@ -286,7 +287,7 @@ pub record DirectoryMeans (z : Sizes) (d : Directory) (lengths : List ℕ) (spac
 
 -- what the program writes of a directory that is refused: "`REFUSE edg 23 2`: file, number, place". (Of one that is accepted: demand 3.)
 pub record TextMeans (z : Sizes) (d : Directory) : Type 0 where
-  pub refused : (w : Named) → outcomeOf z d ownColumns mostSides ≡ outcome.Refused w → textOf z d ≡ refuseLine (w .file) (w .refusal)
+  pub refused : (w : Named) → outcomeOf z d ownColumns programSides ≡ outcome.Refused w → textOf z d ≡ refuseLine (w .file) (w .refusal)
 
 -- ======== ALL OF THEM
 

@@ -16,13 +16,15 @@ use Rattle.tile.specs.declared.Verdict.the-variants as verdict
 use Rattle.tile.specs.Check.{verdictOf}
 use Rattle.tile.specs.Walk.{allSteps, ringSides}
 use Rattle.tile.specs.Demand.{Demand3 as Walked}
-use Rattle.report.specs.declared.Sizes.{Sizes}
+use Rattle.directory.specs.declared.Sizes.{Sizes}
 use Rattle.report.specs.Lines.{acceptLine, stepsLine}
 use Rattle.directory.specs.declared.Outcome.the-variants as outcome
-use Rattle.directory.specs.Columns.{Columns, held}
+use Rattle.load.specs.Columns.{Columns}
+use Rattle.directory.specs.Columns.{held}
 use Rattle.directory.specs.Files.{Directory, filesRead}
 use Rattle.directory.specs.Outcome.{tileSaid, loadedOf, columnsAfter, checkedOf, outcomeOf}
-use Rattle.teller.specs.Text.{mostSides, ownColumns, stepsFrom, ringLines, textOf}
+use Rattle.limits.specs.Limits.{programSides}
+use Rattle.teller.specs.Text.{ownColumns, stepsFrom, ringLines, textOf}
 
 -- ======== DIRECTORIES
 
@@ -53,4 +55,4 @@ pub record Demand3 : Type 0 where
   pub tiles : (t : Tile) (marks : List ℕ) → verdictOf t (length marks) ≡ verdict.Accepted → Walked t marks
   pub directories : (z : Sizes) (d : Directory) (lengths marks : List ℕ) (c : Counts) → outcomeOf z d lengths (length marks) ≡ outcome.Accepted c
       → DirectoryWalked z d lengths marks c
-  pub texts : (z : Sizes) (d : Directory) (c : Counts) → outcomeOf z d ownColumns mostSides ≡ outcome.Accepted c → TextTold z d c
+  pub texts : (z : Sizes) (d : Directory) (c : Counts) → outcomeOf z d ownColumns programSides ≡ outcome.Accepted c → TextTold z d c

@@ -22,7 +22,8 @@ use Rattle.header.specs.declared.Answer.{Answer}
 use Rattle.header.specs.declared.Answer.the-variants as answer
 use Rattle.header.specs.Layouts.{headerOf}
 use Rattle.opening.specs.declared.Opened.{Opened}
-use Rattle.opening.specs.Opening.{mostRows, openedOf}
+use Rattle.limits.specs.Limits.{mostRows}
+use Rattle.opening.specs.Opening.{openedOf}
 use Rattle.table.specs.declared.Row.the-variants as row
 use Rattle.table.specs.declared.Value.the-variants as value
 use Rattle.table.specs.Rows.{rowsRefusal}

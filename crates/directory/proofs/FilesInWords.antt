@@ -6,13 +6,12 @@ use Prim.Native.Nat.{ℕ, _<_}
 use native.Mathlib.Omega.{arith}
 use borrow.Author.Tests.{eq-eqb, eqb-true, eqb-false, ne-eqb}
 use lib.Dec.{eqb}
-use lib.ListN.{length}
 use Rattle.laws.specs.Lowest.{In}
 use Rattle.laws.specs.Orbit.{entry}
 use Rattle.laws.proofs.LowestLaws.{bool-cases}
 use Rattle.laws.proofs.TestLaws.{clash}
 use Rattle.refusal.specs.declared.Refusal.{Refusal}
-use Rattle.side.specs.Edges.{Edges, outside}
+use Rattle.side.specs.Edges.{outside}
 use Rattle.side.specs.Successor.{Fault, no-touch, other-face, both-sides}
 use Rattle.side.proofs.SuccessorExactly.{not-outside}
 use Rattle.tile.specs.Columns.{Tile, F, R}
@@ -21,8 +20,8 @@ use Rattle.load.specs.declared.Finding.{Finding}
 use Rattle.load.specs.declared.TableName.{TableName}
 use Rattle.load.specs.declared.TableName.the-variants as table
 use Rattle.report.specs.declared.FileName.{FileName}
-use Rattle.report.specs.declared.FileName.the-variants.{Edg, Edx, Fac, Rng, Cnd, Cnx}
-use Rattle.report.specs.Files.{ofTable, ofIndex, ringRow, fileOfFinding, fileOfVerdict}
+use Rattle.report.specs.declared.FileName.the-variants.{Edg, Fac, Rng, Cnd, Cnx}
+use Rattle.directory.specs.Concerned.{ofTable, ofIndex, ringRow, fileOfFinding, fileOfVerdict}
 use Rattle.directory.specs.Files.{Directory, cnxRead}
 use Rattle.directory.specs.Words.{SpeaksOf, the-table, edge-index, node-index, no-index-read, fileOfTest}
 
@@ -35,7 +34,8 @@ module _ (d : Directory) (q : Finding) where
   own-file table.Rng u v = refl
   own-file table.Cnd u v = bool-cases (cnxRead d) (λ k. absurd (v refl k)) (λ k. rw k refl)
 
-  by-table : q .refusal .number ≡ 8 → (q .table ≡ table.Edg → ⊥) → (q .table ≡ table.Cnd → cnxRead d ≡ true → ⊥) → SpeaksOf d q (ofIndex (cnxRead d) (q .table))
+  by-table : q .refusal .number ≡ 8 → (q .table ≡ table.Edg → ⊥) → (q .table ≡ table.Cnd → cnxRead d ≡ true → ⊥)
+      → SpeaksOf d q (ofIndex (cnxRead d) (q .table))
   by-table e u v = subst (SpeaksOf d q) (sym (own-file (q .table) u v)) (no-index-read e u v)
 
   by-index : q .refusal .number ≡ 8 → (t : TableName) → q .table ≡ t → SpeaksOf d q (ofIndex (cnxRead d) (q .table))
@@ -98,7 +98,8 @@ module _ (t : Tile) (space : ℕ) (q : Refusal) where
       (λ b. rw b refl)
       (λ b. rw b (not-outside (F t) _ .1 (all (q .place) (not-outside (R t) (q .place) .0 b))))
 
-  named-by : (x : tile.Test) → ((y : tile.Test) → tile.rank y < tile.rank x → tile.Holds t space y) → tile.FailsAt t space x (q .number) (q .place) → file ≡ fileOfTest x
+  named-by : (x : tile.Test) → ((y : tile.Test) → tile.rank y < tile.rank x → tile.Holds t space y)
+      → tile.FailsAt t space x (q .number) (q .place) → file ≡ fileOfTest x
   unfolding fileOfVerdict
   named-by tile.sizes h w = edges-file 15 refl refl refl refl (w .0)
   named-by tile.owner-space h w = edges-file 14 refl refl refl refl (w .0)

@@ -24,81 +24,65 @@ use Rattle.load.specs.declared.Finding.{Finding}
 use Rattle.load.specs.declared.Loaded.{Loaded}
 use Rattle.load.specs.declared.Loaded.the-variants as loaded
 use Rattle.load.specs.Sources.{Files, files, tableIn, tablesOf}
-use Rattle.load.specs.Load.{cellsOf, counts, loadFinding, loadOf, columnLeft}
+use Rattle.load.specs.Columns.{Columns, lengths}
+use Rattle.load.specs.Load.{cellsOf, counts, loadFinding, loadOf, columnLeft, columnsLeft}
 use Rattle.load.specs.Words.{countOf}
-use Rattle.report.specs.declared.AtFault.{AtFault}
-use Rattle.report.specs.declared.AtFault.the-variants.{Is, Nothing}
+use Rattle.directory.specs.declared.AtFault.{AtFault}
+use Rattle.directory.specs.declared.AtFault.the-variants.{Is, Nothing}
 use Rattle.report.specs.declared.FileName.{FileName}
-use Rattle.report.specs.declared.Sizes.{Sizes}
-use Rattle.report.specs.Files.{mostRows, tooLarge, fileOfFinding}
+use Rattle.directory.specs.declared.Sizes.{Sizes}
+use Rattle.limits.specs.Limits.{programRows}
+use Rattle.directory.specs.Files.{tooLarge}
+use Rattle.directory.specs.Concerned.{fileOfFinding}
 use Rattle.directory.specs.declared.Named.{Named}
 use Rattle.directory.specs.declared.Outcome.{Outcome}
 use Rattle.directory.specs.declared.Outcome.the-variants.{Accepted, Refused}
-use Rattle.directory.specs.Columns.{Columns, columns, held, short, shortOf}
+use Rattle.directory.specs.Columns.{held, short, shortOf}
 use Rattle.directory.specs.Files.{Directory, cnxRead, filesRead, sizesTaken}
-use Rattle.directory.specs.Outcome.{named, column, tileSaid, loadedAs, unlessAtFault, loadedOf, columnAfter, columnsAfter, checkedAs}
+use Rattle.directory.specs.Outcome.{named, column, tileSaid, loadedAs, unlessAtFault, loadedOf, columnsAfter, checkedAs}
 use Rattle.directory.specs.Outcome.{checkedOf, marksChecked, outcomeOf}
 
 -- the index of cnd as it is lent
-pub files-read : (d : Directory) (x : List ℕ) (k : Bool) → k ≡ cnxRead d → x ≡ cond k (d .cnx) [] → files (d .edg) (d .edx) (d .fac) [] (d .rng) [] (d .cnd) x ≡ filesRead d
+pub files-read : (d : Directory) (x : List ℕ) (k : Bool) → k ≡ cnxRead d → x ≡ cond k (d .cnx) []
+    → files (d .edg) (d .edx) (d .fac) [] (d .rng) [] (d .cnd) x ≡ filesRead d
 unfolding filesRead
-files-read d x k p q = ap (λ (i : List ℕ). files (d .edg) (d .edx) (d .fac) [] (d .rng) [] (d .cnd) i) (q ∙ ap (λ (b : Bool). cond b (d .cnx) []) p)
+files-read d x k p q = ap (λ (i : List ℕ). files (d .edg) (d .edx) (d .fac) [] (d .rng) [] (d .cnd) i)
+    (q ∙ ap (λ (b : Bool). cond b (d .cnx) []) p)
 
 -- ---- loaded
 
-module _ (z : Sizes) (d : Directory) (y : Sizes) (py : y ≡ sizesTaken z d) (k : Bool) (pk : k ≡ cnxRead d) (t : AtFault) (pt : t ≡ tooLarge y k) where
+module _ (z : Sizes) (d : Directory) (y : Sizes) (py : y ≡ sizesTaken z d) (k : Bool) (pk : k ≡ cnxRead d) (t : AtFault)
+    (pt : t ≡ tooLarge y k) where
   sized : tooLarge (sizesTaken z d) (cnxRead d) ≡ t
   sized = sym (pt ∙ ap (λ (x : Sizes). tooLarge x k) py ∙ ap (tooLarge (sizesTaken z d)) pk)
 
-  -- a file too large
-  pub size-refused : (n : FileName) → t ≡ Is n → (lengths : List ℕ) (q : Named) (x : Refusal) → q ≡ named n x → x ≡ refusal 15 0 → Refused q ≡ loadedOf z d lengths
+  -- a file too large: the columns are as they were
+  pub size-refused : (n : FileName) → t ≡ Is n → (l : Columns) (q : Named) (x : Refusal) → q ≡ named n x → x ≡ refusal 15 0
+      → (Refused q ≡ loadedOf z d (lengths l)) × (l ≡ columnsAfter (Refused q) (filesRead d) l)
   unfolding loadedOf
-  size-refused n e lengths q x a b = rw (sized ∙ e) (ap Refused (a ∙ ap (named n) b))
+  size-refused n e l q x a b = (rw (sized ∙ e) (ap Refused (a ∙ ap (named n) b)), refl)
 
-  -- no file too large: what loading says
-  module _ (e : t ≡ Nothing) (f : Files) (pf : f ≡ filesRead d) (lengths : List ℕ) (r : Loaded) (pr : r ≡ loadOf f mostRows lengths) where
-    said : loadOf (filesRead d) mostRows lengths ≡ r
-    said = ap (λ (x : Files). loadOf x mostRows lengths) (sym pf) ∙ sym pr
+  -- no file too large: what loading says, and leaves in the columns
+  module _ (e : t ≡ Nothing) (f : Files) (pf : f ≡ filesRead d) (l m : Columns) (r : Loaded) (pr : r ≡ loadOf f programRows (lengths l))
+      (pm : m ≡ columnsLeft r f programRows l) where
+    said : loadOf (filesRead d) programRows (lengths l) ≡ r
+    said = ap (λ (x : Files). loadOf x programRows (lengths l)) (sym pf) ∙ sym pr
 
-    pub load-accepted : (c : Counts) → r ≡ loaded.Tile c → Accepted c ≡ loadedOf z d lengths
+    left-by : (g : Loaded) → r ≡ g → m ≡ columnsLeft g (filesRead d) programRows l
+    left-by g h = pm ∙ ap (λ (x : Files). columnsLeft r x programRows l) pf ∙ ap (λ (x : Loaded). columnsLeft x (filesRead d) programRows l) h
+
+    pub load-accepted : (c : Counts) → r ≡ loaded.Tile c
+        → (Accepted c ≡ loadedOf z d (lengths l)) × (m ≡ columnsAfter (Accepted c) (filesRead d) l)
     unfolding loadedOf
-    load-accepted c g = rw (sized ∙ e, said ∙ g) refl
+    load-accepted c g = (rw (sized ∙ e, said ∙ g) refl, left-by (loaded.Tile c) g)
 
     pub load-refused : (q : Finding) → r ≡ loaded.Refused q → (n : FileName) (w : Named) → n ≡ fileOfFinding k q → w ≡ named n (q .refusal)
-        → Refused w ≡ loadedOf z d lengths
+        → (Refused w ≡ loadedOf z d (lengths l)) × (m ≡ columnsAfter (Refused w) (filesRead d) l)
     unfolding loadedOf
-    load-refused q g n w a b =
-        rw (sized ∙ e, said ∙ g) (ap Refused (b ∙ ap (λ (x : FileName). named x (q .refusal)) (a ∙ ap (λ (x : Bool). fileOfFinding x q) pk)))
-
--- what the load leaves in the ten columns
-ten : (a b c d e f g h i j a′ b′ c′ d′ e′ f′ g′ h′ i′ j′ : List ℕ) → a ≡ a′ → b ≡ b′ → c ≡ c′ → d ≡ d′ → e ≡ e′ → f ≡ f′ → g ≡ g′ → h ≡ h′ → i ≡ i′ → j ≡ j′
-    → columns a b c d e f g h i j ≡ columns a′ b′ c′ d′ e′ f′ g′ h′ i′ j′
-ten a b c d e f g h i j a′ b′ c′ d′ e′ f′ g′ h′ i′ j′ pa pb pc pd pe pf pg ph pi pj = rw (pa, pb, pc, pd, pe, pf, pg, ph, pi, pj) refl
-
-abbrev answeredAs : Loaded → Named → Outcome
-answeredAs (loaded.Tile c) w = Accepted c
-answeredAs (loaded.Refused q) w = Refused w
-
-module _ (f′ f : Files) (pf : f′ ≡ f) (r : Loaded) (w : Named) where
-  left-alike : (r : Loaded) (m : TableName) (i : ℕ) (d : List ℕ) → columnLeft r f mostRows m i d ≡ columnAfter (answeredAs r w) f m i d
-  left-alike (loaded.Tile c) m i d = refl
-  left-alike (loaded.Refused q) m i d = refl
-
-  left-by : (m : TableName) (i : ℕ) (d d′ : List ℕ) → d′ ≡ columnLeft r f′ mostRows m i d → d′ ≡ columnAfter (answeredAs r w) f m i d
-  left-by m i d d′ h = h ∙ ap (λ (x : Files). columnLeft r x mostRows m i d) pf ∙ left-alike r m i d
-
-  -- the load's answer is `g`, and the directory's with it
-  pub ten-left : (g : Loaded) → r ≡ g → (l : Columns) (sn en rf lf re le rp fi se fe : List ℕ)
-      → sn ≡ columnLeft r f′ mostRows Edg 1 (l .startNode) → en ≡ columnLeft r f′ mostRows Edg 2 (l .endNode)
-      → rf ≡ columnLeft r f′ mostRows Edg 3 (l .rightFace) → lf ≡ columnLeft r f′ mostRows Edg 4 (l .leftFace)
-      → re ≡ columnLeft r f′ mostRows Edg 5 (l .rightEdge) → le ≡ columnLeft r f′ mostRows Edg 6 (l .leftEdge)
-      → rp ≡ columnLeft r f′ mostRows Fac 7 (l .ringPtr) → fi ≡ columnLeft r f′ mostRows Rng 8 (l .facId)
-      → se ≡ columnLeft r f′ mostRows Rng 9 (l .startEdge) → fe ≡ columnLeft r f′ mostRows Cnd 10 (l .firstEdge)
-      → columns sn en rf lf re le rp fi se fe ≡ columnsAfter (answeredAs g w) f l
-  ten-left g e l sn en rf lf re le rp fi se fe a b c d h i j k m n =
-      ten _ _ _ _ _ _ _ _ _ _ _ _ _ _ _ _ _ _ _ _ (left-by Edg 1 _ sn a) (left-by Edg 2 _ en b) (left-by Edg 3 _ rf c) (left-by Edg 4 _ lf d)
-      (left-by Edg 5 _ re h) (left-by Edg 6 _ le i) (left-by Fac 7 _ rp j) (left-by Rng 8 _ fi k) (left-by Rng 9 _ se m) (left-by Cnd 10 _ fe n)
-      ∙ ap (λ (x : Loaded). columnsAfter (answeredAs x w) f l) e
+    load-refused q g n w a b = (
+      rw (sized ∙ e, said ∙ g) (ap Refused (b ∙ ap (λ (x : FileName). named x (q .refusal)) (a ∙ ap (λ (x : Bool). fileOfFinding x q) pk))),
+      left-by (loaded.Refused q) g,
+    )
 
 -- ---- the columns of a loaded directory hold the tile that its files say
 
@@ -114,16 +98,17 @@ module _ (z : Sizes) (d : Directory) (lengths : List ℕ) (c : Counts) where
   f = filesRead d
 
   -- what a load that is accepted says of its stages
-  accepted-by : (x : AtFault) → tooLarge (sizesTaken z d) (cnxRead d) ≡ x → (l : Loaded) → loadOf f mostRows lengths ≡ l
-      → unlessAtFault x (loadedAs (cnxRead d) l) ≡ Accepted c → (tooLarge (sizesTaken z d) (cnxRead d) ≡ Nothing) × (loadOf f mostRows lengths ≡ loaded.Tile c)
+  accepted-by : (x : AtFault) → tooLarge (sizesTaken z d) (cnxRead d) ≡ x → (l : Loaded) → loadOf f programRows lengths ≡ l
+      → unlessAtFault x (loadedAs (cnxRead d) l) ≡ Accepted c
+      → (tooLarge (sizesTaken z d) (cnxRead d) ≡ Nothing) × (loadOf f programRows lengths ≡ loaded.Tile c)
   accepted-by (Is n) s l g e = clash (cc)
   accepted-by Nothing s (loaded.Tile k) g e = let q : k ≡ c = cc in (s, g ∙ ap loaded.Tile q)
   accepted-by Nothing s (loaded.Refused q) g e = clash (cc)
 
   module _ (accepted : loadedOf z d lengths ≡ Accepted c) where
-    pub stages : (tooLarge (sizesTaken z d) (cnxRead d) ≡ Nothing) × (loadOf f mostRows lengths ≡ loaded.Tile c)
+    pub stages : (tooLarge (sizesTaken z d) (cnxRead d) ≡ Nothing) × (loadOf f programRows lengths ≡ loaded.Tile c)
     unfolding loadedOf
-    stages = accepted-by (tooLarge (sizesTaken z d) (cnxRead d)) refl (loadOf f mostRows lengths) refl accepted
+    stages = accepted-by (tooLarge (sizesTaken z d) (cnxRead d)) refl (loadOf f programRows lengths) refl accepted
 
     abbrev is-tile : Loaded → Bool
     is-tile (loaded.Tile d) = true
@@ -133,40 +118,42 @@ module _ (z : Sizes) (d : Directory) (lengths : List ℕ) (c : Counts) where
     counts-of (loaded.Tile d) = d
     counts-of (loaded.Refused q) = c
 
-    fine-load : eqb (loadFinding f mostRows lengths .refusal .number) 0 ≡ true
+    fine-load : eqb (loadFinding f programRows lengths .refusal .number) 0 ≡ true
     unfolding loadOf
     fine-load =
-        bool-cases (eqb (loadFinding f mostRows lengths .refusal .number) 0)
+        bool-cases (eqb (loadFinding f programRows lengths .refusal .number) 0)
         (λ b. b)
         (λ b. absurd (true≢false (ap is-tile (sym (rw b at (stages .1))))))
 
-    counted : c ≡ counts (tablesOf f mostRows)
+    counted : c ≡ counts (tablesOf f programRows)
     unfolding loadOf
     counted = sym (ap counts-of (rw fine-load at (stages .1)))
 
-    count-rows : (n : TableName) → countOf c n ≡ tableIn (tablesOf f mostRows) n .rows
+    count-rows : (n : TableName) → countOf c n ≡ tableIn (tablesOf f programRows) n .rows
     count-rows Edg = ap (λ (x : Counts). x .edges) counted
     count-rows Fac = ap (λ (x : Counts). x .faces) counted
     count-rows Rng = ap (λ (x : Counts). x .rings) counted
     count-rows Cnd = ap (λ (x : Counts). x .nodes) counted
 
     -- the front of a column as the load leaves it
-    front-said : (n : TableName) (i : ℕ) (l : List ℕ) → take (countOf c n) (columnAfter (Accepted c) f n i l) ≡ column f n i
+    front-said : (n : TableName) (i : ℕ) (l : List ℕ) → take (countOf c n) (columnLeft (loaded.Tile c) f programRows n i l) ≡ column f n i
     front-said n i l =
-        let rows = tableIn (tablesOf f mostRows) n .rows in
-        take-at (listed (cellsOf f mostRows n i) rows) (drop rows l) (countOf c n) (length-listed (cellsOf f mostRows n i) rows ∙ sym (count-rows n))
+        let rows = tableIn (tablesOf f programRows) n .rows in
+        take-at (listed (cellsOf f programRows n i) rows) (drop rows l) (countOf c n)
+        (length-listed (cellsOf f programRows n i) rows ∙ sym (count-rows n))
 
     -- THE TILE AT THE FRONT of the ten columns is the one that the files say
     pub held-said : (l : Columns) → held c (columnsAfter (Accepted c) f l) ≡ tileSaid f
     held-said l =
-        tile-is f _ _ _ _ _ _ _ _ _ _ (front-said Edg 1 _) (front-said Edg 2 _) (front-said Edg 3 _) (front-said Edg 4 _) (front-said Edg 5 _) (front-said Edg 6 _)
+        tile-is f _ _ _ _ _ _ _ _ _ _ (front-said Edg 1 _) (front-said Edg 2 _) (front-said Edg 3 _)
+        (front-said Edg 4 _) (front-said Edg 5 _) (front-said Edg 6 _)
         (front-said Fac 7 _) (front-said Rng 8 _) (front-said Rng 9 _) (front-said Cnd 10 _)
 
     -- no column is shorter than the counts say
-    long-enough : (n : TableName) (i : ℕ) (l : List ℕ) → short (countOf c n) (columnAfter (Accepted c) f n i l) ≡ false
+    long-enough : (n : TableName) (i : ℕ) (l : List ℕ) → short (countOf c n) (columnLeft (loaded.Tile c) f programRows n i l) ≡ false
     long-enough n i l =
-        let rows = tableIn (tablesOf f mostRows) n .rows in
-        let g = cellsOf f mostRows n i in
+        let rows = tableIn (tablesOf f programRows) n .rows in
+        let g = cellsOf f programRows n i in
         le-ltb _ (countOf c n) (simp (length-append, length-listed g rows) (omega (arith, count-rows n)))
 
     pub counts-held : (l : Columns) → shortOf c (columnsAfter (Accepted c) f l) ≡ Nothing

@@ -9,13 +9,14 @@ use native.Mathlib.Omega.{arith}
 use lib.Dec.{ltb}
 use lib.ListN.{length}
 use Rattle.laws.proofs.LowestLaws.{bool-cases}
-use Rattle.laws.proofs.TestLaws.{clash, not-above}
-use Rattle.report.specs.declared.AtFault.{AtFault}
-use Rattle.report.specs.declared.AtFault.the-variants.{Is, Nothing}
+use Rattle.laws.proofs.TestLaws.{not-above}
+use Rattle.directory.specs.declared.AtFault.{AtFault}
+use Rattle.directory.specs.declared.AtFault.the-variants.{Is, Nothing}
 use Rattle.report.specs.declared.FileName.{FileName}
 use Rattle.report.specs.declared.FileName.the-variants.{Edg, Edx, Fac, Rng, Cnd, Cnx}
-use Rattle.report.specs.declared.Sizes.{Sizes}
-use Rattle.report.specs.Files.{mostBytes, tooLarge}
+use Rattle.directory.specs.declared.Sizes.{Sizes}
+use Rattle.limits.specs.Limits.{mostBytes}
+use Rattle.directory.specs.Files.{tooLarge}
 use Rattle.directory.specs.Files.{Directory, cnxRead, sizesTaken}
 use Rattle.directory.specs.Words.{sizeSaid, bytesLent, IsRead, rank, Fits, SizeRight, FirstTooLarge}
 
@@ -74,7 +75,8 @@ module _ (z : Sizes) (d : Directory) where
   Judged (Is n) = FirstTooLarge z d n
   Judged Nothing = (n : FileName) → SizeRight z d n
 
-  tested : (n : FileName) (rest : AtFault) → IsRead d n → Passed (rank n) → (Passed (suc (rank n)) → Judged rest) → Judged (cond (larger n) (Is n) rest)
+  tested : (n : FileName) (rest : AtFault) → IsRead d n → Passed (rank n) → (Passed (suc (rank n)) → Judged rest)
+      → Judged (cond (larger n) (Is n) rest)
   tested n rest r p go =
       bool-cases (larger n)
       (λ b. rw b (record { read = r; too-large = λ f. true≢false (sym b ∙ fits n .1 f); earlier = p }))

@@ -1,5 +1,5 @@
 -- The steps of ring rows, added up.
-use mathlib.Core.Path.{_≡_, refl, ap, _∙_}
+use mathlib.Core.Path.{_≡_, refl, _∙_}
 use mathlib.Core.Bool.{Bool, true, false, cond}
 use Prim.Native.Nat.{ℕ, suc, _+_, _≤_}
 use native.Mathlib.Omega.{arith}
@@ -9,8 +9,7 @@ use lib.Dec.{eqb, ltb}
 use Rattle.laws.proofs.LowestLaws.{bool-cases}
 use Rattle.refusal.specs.Order.{refusal}
 use Rattle.side.specs.Edges as side
-use Rattle.tile.specs.declared.Moves.{Moves}
-use Rattle.tile.specs.declared.Moves.the-variants.{Back, Open, Stuck}
+use Rattle.tile.specs.Walk.{Moves, Back, Open, Stuck}
 use Rattle.tile.specs.declared.Walked.{Walked}
 use Rattle.tile.specs.declared.Walked.the-variants as walked
 use Rattle.tile.specs.Columns.{Tile, R, startSide}
@@ -39,7 +38,8 @@ steps-within t r space =
 
 -- ---- a turn of a loop over the ring rows
 
-pub steps-next : (t : Tile) (space given i all row steps : ℕ) (w : Walked) → all ≡ allSteps t space i → row ≡ i + 1 → given ≡ space → w ≡ walk.walkOf t row given
+pub steps-next : (t : Tile) (space given i all row steps : ℕ) (w : Walked) → all ≡ allSteps t space i → row ≡ i + 1
+    → given ≡ space → w ≡ walk.walkOf t row given
     → steps ≡ stepsOf w → all + steps ≡ allSteps t space row
 steps-next t space given i all row steps w a b c d e =
     let q : row ≡ suc i = b ∙ add-one i in

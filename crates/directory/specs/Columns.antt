@@ -1,4 +1,4 @@
--- The ten columns that a tile is loaded into, and the tile that stands at their front.
+-- The tile that stands at the front of ten columns, and counts that the columns cannot have.
 use mathlib.Core.Bool.{Bool, cond, _||_}
 use mathlib.Core.List.{List}
 use Prim.Native.Nat.{ℕ}
@@ -7,42 +7,10 @@ use lib.ListN.{length, take}
 use Rattle.side.specs.Edges.{edges}
 use Rattle.tile.specs.Columns.{Tile, tile}
 use Rattle.load.specs.declared.Counts.{Counts}
-use Rattle.load.specs.Load.{lengthsOf}
-use Rattle.report.specs.declared.AtFault.{AtFault}
-use Rattle.report.specs.declared.AtFault.the-variants.{Is, Nothing}
+use Rattle.load.specs.Columns.{Columns}
+use Rattle.directory.specs.declared.AtFault.{AtFault}
+use Rattle.directory.specs.declared.AtFault.the-variants.{Is, Nothing}
 use Rattle.report.specs.declared.FileName.the-variants.{Edg, Fac, Rng, Cnd}
-
-pub record Columns : Type 0 where
-  pub startNode : List ℕ
-  pub endNode : List ℕ
-  pub rightFace : List ℕ
-  pub leftFace : List ℕ
-  pub rightEdge : List ℕ
-  pub leftEdge : List ℕ
-  pub ringPtr : List ℕ
-  pub facId : List ℕ
-  pub startEdge : List ℕ
-  pub firstEdge : List ℕ
-
-abbrev pub columns : List ℕ → List ℕ → List ℕ → List ℕ → List ℕ → List ℕ → List ℕ → List ℕ → List ℕ → List ℕ → Columns
-columns startNode endNode rightFace leftFace rightEdge leftEdge ringPtr facId startEdge firstEdge =
-    record {
-      startNode = startNode;
-      endNode = endNode;
-      rightFace = rightFace;
-      leftFace = leftFace;
-      rightEdge = rightEdge;
-      leftEdge = leftEdge;
-      ringPtr = ringPtr;
-      facId = facId;
-      startEdge = startEdge;
-      firstEdge = firstEdge;
-    }
-
--- how long each is
-abbrev pub lengths : Columns → List ℕ
-lengths l =
-    lengthsOf (l .startNode) (l .endNode) (l .rightFace) (l .leftFace) (l .rightEdge) (l .leftEdge) (l .ringPtr) (l .facId) (l .startEdge) (l .firstEdge)
 
 -- the tile that stands at their front: as many rows of each as the counts say
 abbrev pub held : Counts → Columns → Tile

@@ -1,4 +1,5 @@
 pub mod Files
+pub mod Concerned
 pub mod Columns
 pub mod Outcome
 pub mod Words

@@ -17,13 +17,16 @@ use Rattle.load.specs.declared.Counts.{Counts}
 use Rattle.load.specs.declared.Loaded.{Loaded}
 use Rattle.load.specs.declared.Loaded.the-variants as loaded
 use Rattle.load.specs.Sources.{Files, tableIn, tablesOf}
-use Rattle.load.specs.Load.{cellsOf, columnLeft, loadOf}
-use Rattle.report.specs.declared.AtFault.{AtFault}
-use Rattle.report.specs.declared.AtFault.the-variants.{Is, Nothing}
+use Rattle.load.specs.Columns.{Columns}
+use Rattle.load.specs.Load.{cellsOf, columnsLeft, loadOf}
+use Rattle.directory.specs.declared.AtFault.{AtFault}
+use Rattle.directory.specs.declared.AtFault.the-variants.{Is, Nothing}
 use Rattle.report.specs.declared.FileName.{FileName}
-use Rattle.report.specs.declared.Sizes.{Sizes}
-use Rattle.report.specs.Files.{mostRows, tooLarge, fileOfFinding, fileOfVerdict}
-use Rattle.directory.specs.Columns.{Columns, columns, held, shortOf}
+use Rattle.directory.specs.declared.Sizes.{Sizes}
+use Rattle.limits.specs.Limits.{programRows}
+use Rattle.directory.specs.Files.{tooLarge}
+use Rattle.directory.specs.Concerned.{fileOfFinding, fileOfVerdict}
+use Rattle.directory.specs.Columns.{held, shortOf}
 use Rattle.directory.specs.Files.{Directory, cnxRead, filesRead, sizesTaken}
 use Rattle.directory.specs.declared.Named.{Named}
 use Rattle.directory.specs.declared.Outcome.{Outcome}
@@ -41,7 +44,7 @@ unlessAtFault Nothing rest = rest
 
 -- the numbers of the column of place k in table n, one for each row
 abbrev pub column : Files → TableName → ℕ → List ℕ
-column f n k = listed (cellsOf f mostRows n k) (tableIn (tablesOf f mostRows) n .rows)
+column f n k = listed (cellsOf f programRows n k) (tableIn (tablesOf f programRows) n .rows)
 
 unfoldable pub tileSaid : Files → Tile
 tileSaid f =
@@ -57,20 +60,12 @@ loadedAs cnxRead (loaded.Refused q) = Refused (named (fileOfFinding cnxRead q) (
 
 -- THE ANSWER TO A LOAD of a directory whose files are said to have these sizes; `lengths` are those of the ten lent columns
 unfoldable pub loadedOf : Sizes → Directory → List ℕ → Outcome
-loadedOf z d lengths = unlessAtFault (tooLarge (sizesTaken z d) (cnxRead d)) (loadedAs (cnxRead d) (loadOf (filesRead d) mostRows lengths))
+loadedOf z d lengths = unlessAtFault (tooLarge (sizesTaken z d) (cnxRead d)) (loadedAs (cnxRead d) (loadOf (filesRead d) programRows lengths))
 
--- what it leaves in the lent column of place k in table n: the column that the files say, over what was there; a refusal changes nothing
-abbrev pub columnAfter : Outcome → Files → TableName → ℕ → List ℕ → List ℕ
-columnAfter (Accepted c) f n k d = columnLeft (loaded.Tile c) f mostRows n k d
-columnAfter (Refused w) f n k d = d
-
--- and in all ten
+-- what it leaves in the ten lent columns: those that the files say, over what was there; a refusal changes nothing
 abbrev pub columnsAfter : Outcome → Files → Columns → Columns
-columnsAfter o f l =
-    columns (columnAfter o f Edg 1 (l .startNode)) (columnAfter o f Edg 2 (l .endNode)) (columnAfter o f Edg 3 (l .rightFace))
-    (columnAfter o f Edg 4 (l .leftFace)) (columnAfter o f Edg 5 (l .rightEdge)) (columnAfter o f Edg 6 (l .leftEdge))
-    (columnAfter o f Fac 7 (l .ringPtr)) (columnAfter o f Rng 8 (l .facId)) (columnAfter o f Rng 9 (l .startEdge))
-    (columnAfter o f Cnd 10 (l .firstEdge))
+columnsAfter (Accepted c) f l = columnsLeft (loaded.Tile c) f programRows l
+columnsAfter (Refused w) f l = l
 
 -- ---- checked: the check's own answer, with the file that a refusal speaks of
 

@@ -13,31 +13,30 @@ use Rattle.load.specs.declared.TableName.the-variants as table
 use Rattle.load.specs.Words as load
 use Rattle.report.specs.declared.FileName.{FileName}
 use Rattle.report.specs.declared.FileName.the-variants.{Edg, Edx, Fac, Rng, Cnd, Cnx}
-use Rattle.report.specs.declared.Sizes.{Sizes}
-use Rattle.report.specs.Files.{mostBytes, mostRows, ofTable}
+use Rattle.directory.specs.declared.Sizes.{Sizes}
+use Rattle.limits.specs.Limits.{mostBytes, programRows}
+use Rattle.directory.specs.Concerned.{ofTable}
 use Rattle.directory.specs.declared.Named.{Named}
 use Rattle.directory.specs.Files.{Directory, cnxRead, filesRead}
 use Rattle.directory.specs.Outcome.{tileSaid}
 
 -- ---- sizes: "each at most 65,536 bytes", "sizes first, in that order (cnx's once cnd's header is accepted and shows K)"
 
--- what a file is said to have
-abbrev pub sizeSaid : Sizes → FileName → ℕ
-sizeSaid z Edg = z .edg
-sizeSaid z Edx = z .edx
-sizeSaid z Fac = z .fac
-sizeSaid z Rng = z .rng
-sizeSaid z Cnd = z .cnd
-sizeSaid z Cnx = z .cnx
+-- of six things the one of a file
+abbrev pub byFile : {A : Type 0} → A → A → A → A → A → A → FileName → A
+byFile edg edx fac rng cnd cnx Edg = edg
+byFile edg edx fac rng cnd cnx Edx = edx
+byFile edg edx fac rng cnd cnx Fac = fac
+byFile edg edx fac rng cnd cnx Rng = rng
+byFile edg edx fac rng cnd cnx Cnd = cnd
+byFile edg edx fac rng cnd cnx Cnx = cnx
 
--- what is lent of it
+-- what a file is said to have, and what is lent of it
+abbrev pub sizeSaid : Sizes → FileName → ℕ
+sizeSaid z n = byFile (z .edg) (z .edx) (z .fac) (z .rng) (z .cnd) (z .cnx) n
+
 abbrev pub bytesLent : Directory → FileName → List ℕ
-bytesLent d Edg = d .edg
-bytesLent d Edx = d .edx
-bytesLent d Fac = d .fac
-bytesLent d Rng = d .rng
-bytesLent d Cnd = d .cnd
-bytesLent d Cnx = d .cnx
+bytesLent d n = byFile (d .edg) (d .edx) (d .fac) (d .rng) (d .cnd) (d .cnx) n
 
 -- "edg, edx, fac, rng, cnd (and cnx if K occurs)", in that order
 abbrev pub IsRead : Directory → FileName → Type 0
@@ -49,12 +48,7 @@ IsRead d Cnd = Unit {0}
 IsRead d Cnx = cnxRead d ≡ true
 
 abbrev pub rank : FileName → ℕ
-rank Edg = 0
-rank Edx = 1
-rank Fac = 2
-rank Rng = 3
-rank Cnd = 4
-rank Cnx = 5
+rank n = byFile 0 1 2 3 4 5 n
 
 -- a file is not too large: neither is it said to be, nor is more of it lent
 pub record Fits (z : Sizes) (d : Directory) (n : FileName) : Type 0 where
@@ -100,7 +94,7 @@ module _ (z : Sizes) (d : Directory) (lengths : List ℕ) (space : ℕ) where
   -- A DIRECTORY IS ACCEPTED with the counts c EXACTLY WHEN these hold
   pub record AcceptedWith (c : Counts) : Type 0 where
     pub sizes : (n : FileName) → SizeRight z d n
-    pub loads : load.Loads (filesRead d) mostRows lengths c
+    pub loads : load.Loads (filesRead d) programRows lengths c
     pub facts : tile.Facts (tileSaid (filesRead d)) space
 
   -- "Larger is 15: sizes first"; "for 15 by size it is the file too large"
@@ -112,7 +106,7 @@ module _ (z : Sizes) (d : Directory) (lengths : List ℕ) (space : ℕ) where
   pub record ByLoad (w : Named) : Type 0 where
     pub sizes : (n : FileName) → SizeRight z d n
     pub finding : Finding
-    pub refused : load.RefusedWith (filesRead d) mostRows lengths finding
+    pub refused : load.RefusedWith (filesRead d) programRows lengths finding
     pub says : w .refusal ≡ finding .refusal
     pub file : SpeaksOf d finding (w .file)
 
@@ -120,7 +114,7 @@ module _ (z : Sizes) (d : Directory) (lengths : List ℕ) (space : ℕ) where
   pub record ByCheck (w : Named) : Type 0 where
     pub sizes : (n : FileName) → SizeRight z d n
     pub counts : Counts
-    pub loads : load.Loads (filesRead d) mostRows lengths counts
+    pub loads : load.Loads (filesRead d) programRows lengths counts
     pub refused : tile.RefusedWith (tileSaid (filesRead d)) space (w .refusal .number) (w .refusal .place)
     pub file : w .file ≡ fileOfTest (refused .test)
 

@@ -1,11 +1,12 @@
 // A directory's files loaded, sizes first, and the tile that they say checked; with the file that a refusal speaks of.
+pub mod files;
+
+use limits::PROGRAM_ROWS;
 use load::Counts;
 use load::Loaded;
+use refusal::OVER_LIMIT;
 use refusal::Refusal;
-use report::AtFault;
 use report::FileName;
-use report::MOST_ROWS;
-use report::Sizes;
 use tile::Verdict;
 use tile::Walked;
 ghost use mathlib.Core.Path.{_≡_};
@@ -17,9 +18,26 @@ ghost use Rattle.side.specs.Edges.{edges};
 ghost use Rattle.tile.specs.Columns.{tile};
 ghost use Rattle.tile.specs.Check.{marksAfter};
 ghost use Rattle.tile.specs.Walk.{walkOf, sidesWritten};
-ghost use Rattle.directory.specs.Columns.{columns, lengths, held, short, shortOf};
+ghost use Rattle.load.specs.Columns.{columns, lengths};
+ghost use Rattle.directory.specs.Columns.{held, short, shortOf};
 ghost use Rattle.directory.specs.Files.{directory, filesRead, sizesTaken};
 ghost use Rattle.directory.specs.Outcome.{named, loadedOf, columnsAfter, checkedAs, checkedOf, marksChecked};
+
+// How many bytes each file is said to have; any number above 65,536 stands for a larger file.
+pub struct Sizes {
+    pub edg: usize,
+    pub edx: usize,
+    pub fac: usize,
+    pub rng: usize,
+    pub cnd: usize,
+    pub cnx: usize,
+}
+
+// The first file that is at fault, if any.
+pub enum AtFault {
+    Is(FileName),
+    Nothing,
+}
 
 // A refusal, and the file that it speaks of.
 pub struct Named {
@@ -31,9 +49,6 @@ pub enum Outcome {
     Accepted(Counts),
     Refused(Named),
 }
-
-// Refusal 15: a file, or a table's count, is larger than it may be.
-const TOO_LARGE: u32 = 15;
 
 fn name(file: FileName, refused: Refusal) -> Named
     ensures { λ r. ⌜ r ≡ named file refused ⌝ }
@@ -130,10 +145,10 @@ pub fn load_files(
         (now («ring_ptr» .entry)) (now («fac_id» .entry))
         (now («start_edge» .entry)) (now («first_edge» .entry))) ⌝ }
 {
-    let cnx_read = report::shows_triplet(cnd);
-    match report::too_large(take_sizes(sizes, edg, edx, fac, rng, cnd, cnx), cnx_read) {
+    let cnx_read = files::shows_triplet(cnd);
+    match files::too_large(take_sizes(sizes, edg, edx, fac, rng, cnd, cnx), cnx_read) {
         AtFault::Is(file) => {
-            return Outcome::Refused(name(file, refusal::refuse(TOO_LARGE, 0)));
+            return Outcome::Refused(name(file, refusal::refuse(OVER_LIMIT, 0)));
         }
         AtFault::Nothing => {}
     }
@@ -147,7 +162,7 @@ pub fn load_files(
         none,
         cnd,
         lent_index(cnx, cnx_read),
-        MOST_ROWS,
+        PROGRAM_ROWS,
         start_node,
         end_node,
         right_face,
@@ -161,7 +176,7 @@ pub fn load_files(
     ) {
         Loaded::Tile(c) => Outcome::Accepted(c),
         Loaded::Refused(found) => Outcome::Refused(name(
-            report::file_of_finding(cnx_read, found),
+            files::file_of_finding(cnx_read, found),
             found.refusal,
         )),
     }
@@ -222,7 +237,7 @@ fn check_tile(
     ) {
         Verdict::Accepted => Outcome::Accepted(counts),
         Verdict::Refused(q) => Outcome::Refused(name(
-            report::file_of_verdict(fac_id, ring_ptr.len(), q),
+            files::file_of_verdict(fac_id, ring_ptr.len(), q),
             q,
         )),
     }
@@ -286,6 +301,20 @@ fn two_short(n: usize, a: &[u32], b: &[u32]) -> bool
     b.len() < n
 }
 
+// Whether one of six columns has not so many rows.
+fn six_short(n: usize, a: &[u32], b: &[u32], c: &[u32], d: &[u32], e: &[u32], f: &[u32]) -> bool
+    ensures { λ r. ⌜ r ≡ ((short n (now (a .entry)) || short n (now (b .entry)))
+        || ((short n (now (c .entry)) || short n (now (d .entry))) || (short n (now (e .entry)) || short n (now (f .entry))))) ⌝ }
+{
+    if two_short(n, a, b) {
+        return true;
+    }
+    if two_short(n, c, d) {
+        return true;
+    }
+    two_short(n, e, f)
+}
+
 // The first table of which a column is shorter than the counts say.
 fn short_table(
     counts: Counts,
@@ -306,14 +335,15 @@ fn short_table(
         (now («ring_ptr» .entry)) (now («fac_id» .entry))
         (now («start_edge» .entry)) (now («first_edge» .entry))) ⌝ }
 {
-    let e = counts.edges;
-    if two_short(e, start_node, end_node) {
-        return AtFault::Is(FileName::Edg);
-    }
-    if two_short(e, right_face, left_face) {
-        return AtFault::Is(FileName::Edg);
-    }
-    if two_short(e, right_edge, left_edge) {
+    if six_short(
+        counts.edges,
+        start_node,
+        end_node,
+        right_face,
+        left_face,
+        right_edge,
+        left_edge,
+    ) {
         return AtFault::Is(FileName::Edg);
     }
     if ring_ptr.len() < counts.faces {
@@ -370,7 +400,7 @@ pub fn check_loaded(
         first_edge,
     ) {
         AtFault::Is(file) => {
-            return Outcome::Refused(name(file, refusal::refuse(TOO_LARGE, 0)));
+            return Outcome::Refused(name(file, refusal::refuse(OVER_LIMIT, 0)));
         }
         AtFault::Nothing => {}
     }

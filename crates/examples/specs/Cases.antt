@@ -3,10 +3,10 @@
 use mathlib.Core.Path.{_≡_}
 use mathlib.Core.List.{List, [], _∷_, _++_, map}
 use Prim.Native.Nat.{ℕ}
-use Prim.Native.Char.{code}
-use Prim.Native.String.{String, [] as ended, _∷_ as _before_}
+use Prim.Native.String.{String}
 use lib.ListN.{length, replicate}
 use Rattle.laws.specs.Buffer.{oneTo}
+use Rattle.laws.specs.Texts.{bytes}
 use Rattle.refusal.specs.declared.Refusal.{Refusal}
 use Rattle.refusal.specs.Order.{refusal}
 use Rattle.number.specs.declared.Order.{Order}
@@ -52,11 +52,6 @@ pub data Case : Type 0 where
   writes-of : Tile → ℕ → List ℕ → Case
   -- a tile is refused
   no-tile : Tile → Refusal → Case
-
--- the bytes of a text
-abbrev pub bytes : String → List ℕ
-bytes ended = []
-bytes (c before s) = code c ∷ bytes s
 
 -- "Four bytes L, then L bytes of text, then rows", of no row, least significant byte first
 abbrev pub fileOf : ℕ → String → List ℕ

@@ -24,7 +24,8 @@ least half bits h = (to, from (ltb bits (suc half)) refl)
         let d : suc half + suc half - suc bits ≡ half = omega arith in
         rw (le-ltb bits (suc half) (omega arith), d)
 
-    from : (b : Bool) → ltb bits (suc half) ≡ b → Number (cond b (pos bits) (negsuc (suc half + suc half - suc bits))) ≡ Number (negsuc half) → eqb bits (suc half) ≡ true
+    from : (b : Bool) → ltb bits (suc half) ≡ b
+        → Number (cond b (pos bits) (negsuc (suc half + suc half - suc bits))) ≡ Number (negsuc half) → eqb bits (suc half) ≡ true
     from true e q = let z : _≡_ {A = ℕ} 0 1 = cc in absurd (no z)
       where
         no : _≡_ {A = ℕ} 0 1 → ⊥

@@ -41,7 +41,8 @@ sameNull NotANumber (Number b) = false
 sameNull NotANumber NotANumber = true
 
 abbrev agree : Row → FieldType → Bool
-agree r t = eqb (letterOf t) (r .letter) && eqb (widthOf t) (elementWidth (r .bytes)) && Bool·beq (starOf t) (starAllowed (r .count)) && sameNull (nullOf t) (r .null)
+agree r t = eqb (letterOf t) (r .letter) && eqb (widthOf t) (elementWidth (r .bytes)) && Bool·beq (starOf t)
+    (starAllowed (r .count)) && sameNull (nullOf t) (r .null)
 
 abbrev right : Entry → Lookup → Bool
 right (listed r) (Is t) = agree r t
@@ -93,8 +94,10 @@ counts-by t one e false n = rw e (eqb-true n 1, eq-eqb n 1)
 
 agrees : (r : Row) (t : FieldType) → agree r t ≡ true → Agrees r t
 agrees r t h =
-    let a = both (eqb (letterOf t) (r .letter) && eqb (widthOf t) (elementWidth (r .bytes)) && Bool·beq (starOf t) (starAllowed (r .count))) (sameNull (nullOf t) (r .null)) h in
-    let b = both (eqb (letterOf t) (r .letter) && eqb (widthOf t) (elementWidth (r .bytes))) (Bool·beq (starOf t) (starAllowed (r .count))) (a .0) in
+    let a = both (eqb (letterOf t) (r .letter) && eqb (widthOf t) (elementWidth (r .bytes)) && Bool·beq (starOf t)
+    (starAllowed (r .count))) (sameNull (nullOf t) (r .null)) h in
+    let b = both (eqb (letterOf t) (r .letter) && eqb (widthOf t) (elementWidth (r .bytes)))
+    (Bool·beq (starOf t) (starAllowed (r .count))) (a .0) in
     let c = both (eqb (letterOf t) (r .letter)) (eqb (widthOf t) (elementWidth (r .bytes))) (b .0) in
     let s = same-bool (starOf t) (starAllowed (r .count)) (b .1) in
     record {

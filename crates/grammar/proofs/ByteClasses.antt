@@ -49,7 +49,13 @@ to-allowed Letters n b (inl e) = simp (to-printable b (rw e (omega arith)), eq-e
 to-allowed Letters n b (inr e) = simp (to-printable b (rw e (omega arith)), ne-eqb b 76 (λ q. omega arith), eq-eqb b 77 e)
 to-allowed NoSemicolon n b h = simp (to-printable b (h .0), ne-eqb b semicolon (h .1))
 to-allowed Plain n b h =
-    simp (to-printable b (h .printable), ne-eqb b semicolon (h .no-semicolon), ne-eqb b colon (h .no-colon), ne-eqb b comma (h .no-comma), ne-eqb b equals (h .no-equals))
+    simp (
+      to-printable b (h .printable),
+      ne-eqb b semicolon (h .no-semicolon),
+      ne-eqb b colon (h .no-colon),
+      ne-eqb b comma (h .no-comma),
+      ne-eqb b equals (h .no-equals),
+    )
 to-allowed Digits n b h =
     let d = h .0 in
     let p : Printable b = (omega arith, omega arith) in

@@ -10,7 +10,8 @@ use Rattle.grammar.specs.Words.{semicolon, comma, equals, star, Mark, ab
 use Rattle.grammar.specs.Words.{printedColumn, Text, Count, WellFormedColumn, WellFormed}
 use Rattle.grammar.proofs.PrintIsRead.{column-then}
 
-text-lacks : (b : ℕ) {least most : ℕ} {Allowed : ℕ → Type 0} (w : List ℕ) → ((x : ℕ) → Allowed x → x ≡ b → ⊥) → Text least most Allowed w → Lacks b w
+text-lacks : (b : ℕ) {least most : ℕ} {Allowed : ℕ → Type 0} (w : List ℕ) → ((x : ℕ) → Allowed x → x ≡ b → ⊥)
+    → Text least most Allowed w → Lacks b w
 text-lacks b w f t k h e = f (getD w k 0) (t .bytes k h) e
 
 single-lacks : (b x : ℕ) → (x ≡ b → ⊥) → Lacks b (x ∷ [])

@@ -75,14 +75,18 @@ says s i e = from-run s i (not-both s i e) (run machine s start 0) refl e
 
 -- what begins a text of the grammar begins one at every shorter length
 begins-shorter : (s : List ℕ) (i : ℕ) → Begins s → Begins (take i s)
-begins-shorter s i (t, g) = (drop i s ++ t, subst InGrammar (sym (ap (λ (l : List ℕ). l ++ t) (take-append-drop i s)) ∙ append-assoc (take i s) (drop i s) t) g)
+begins-shorter s i (t, g) = (
+  drop i s ++ t,
+  subst InGrammar (sym (ap (λ (l : List ℕ). l ++ t) (take-append-drop i s)) ∙ append-assoc (take i s) (drop i s) t) g,
+)
 
 whole-begins : (s : List ℕ) → InGrammar s → Begins s
 whole-begins s g = ([], subst InGrammar (sym (append-nil s)) g)
 
 -- two places of one text are one
 one-place : (s : List ℕ) (i j : ℕ) → BadPlace s i → BadPlace s j → i ≡ j
-one-place s i j (inl f) (inl g) = by-cases (decLe i j) (λ c. by-cases (decLe j i) (λ d. omega arith) (λ d. absurd (below i j f g (omega arith)))) (λ c. absurd (below j i g f (omega arith)))
+one-place s i j (inl f) (inl g) = by-cases (decLe i j)
+    (λ c. by-cases (decLe j i) (λ d. omega arith) (λ d. absurd (below i j f g (omega arith)))) (λ c. absurd (below j i g f (omega arith)))
   where
     below : (i j : ℕ) → FirstBad s i → FirstBad s j → i < j → ⊥
     below i j f g h = f .with-it (rw (sym (take-take (suc i) j s h)) (begins-shorter (take j s) (suc i) (g .before)))

@@ -1,6 +1,7 @@
 pub mod ScanBounds
 pub mod ByteClasses
 pub mod MachineMoves
+pub mod PassLaws
 pub mod PrintIsRead
 pub mod ReadIsPrint
 pub mod GrammarExact
@@ -8,4 +9,3 @@ pub mod SpotsGoOn
 pub mod FirstBadByte
 pub mod ColumnFacts
 pub mod OneReading
-pub mod Examples

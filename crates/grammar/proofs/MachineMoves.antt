@@ -8,17 +8,14 @@ use Rattle.laws.specs.Machine.{Next, go, stop}
 use Rattle.laws.proofs.TestLaws.{both-true, cond-same, clash}
 use Rattle.grammar.specs.Words.{semicolon, star}
 use Rattle.grammar.specs.Fields.{rule, printable, letter, plain, digit, holds, allowed}
-use Rattle.grammar.specs.Scan.{spot, takes, closes, ends, stars, columnsAfter, move, machine}
+use Rattle.grammar.specs.Scan.{spot, takes, closes, ends, stars, move, machine}
+use Rattle.grammar.specs.Serving.Passing.{closed}
 use Rattle.grammar.specs.declared.Field.{Field}
 use Rattle.grammar.specs.declared.Field.the-variants.{OrderLetter, TableDescription, TableNarrative, Name, Kind, Numeral, AfterStar}
 use Rattle.grammar.specs.declared.Field.the-variants.{Key, Description, ValueTable, ThematicIndex, Narrative, ColumnEnd, TextEnd}
 use Rattle.grammar.specs.declared.Special.{Special}
 use Rattle.grammar.specs.declared.Special.the-variants.{Usual, ColumnsMayEnd, StarMayStand, ColumnIsWhole, TextIsWhole}
 use Rattle.grammar.specs.declared.Spot.{Spot}
-
--- where the closer of a field leads
-abbrev pub closed : Field → ℕ → Spot
-closed f cols = spot (rule f .next) 0 (columnsAfter (rule f .special) cols)
 
 module _ (f : Field) (n cols b : ℕ) where
   pub take-step : takes f n b ≡ true → machine (spot f n cols) b ≡ go (spot f (n + 1) cols)

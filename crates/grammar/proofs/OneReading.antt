@@ -17,7 +17,8 @@ heads e = (cc, cc)
 
 -- ---- columns
 
-pub one-column : (c d : Column) (u v : List ℕ) → WellFormedColumn c → WellFormedColumn d → printedColumn c ++ u ≡ printedColumn d ++ v → (c ≡ d) × (u ≡ v)
+pub one-column : (c d : Column) (u v : List ℕ) → WellFormedColumn c → WellFormedColumn d
+    → printedColumn c ++ u ≡ printedColumn d ++ v → (c ≡ d) × (u ≡ v)
 one-column c d u v w x e =
     let e₀ = sym (column-then c u) ∙ e ∙ column-then d v in
     let name = one-cut equals (c .name) (d .name) _ _ (name-lacks-equals c w) (name-lacks-equals d x) e₀ in
@@ -26,7 +27,8 @@ one-column c d u v w x e =
     let key = heads (count .1) in
     let description = one-cut comma (c .description) (d .description) _ _ (description-lacks c w) (description-lacks d x) (heads (key .1) .1) in
     let value-table = one-cut comma (c .valueTable) (d .valueTable) _ _ (value-table-lacks c w) (value-table-lacks d x) (description .1) in
-    let thematic-index = one-cut comma (c .thematicIndex) (d .thematicIndex) _ _ (thematic-index-lacks c w) (thematic-index-lacks d x) (value-table .1) in
+    let thematic-index = one-cut comma (c .thematicIndex) (d .thematicIndex) _ _ (thematic-index-lacks c w)
+    (thematic-index-lacks d x) (value-table .1) in
     let narrative = one-cut comma (c .narrative) (d .narrative) _ _ (narrative-lacks c w) (narrative-lacks d x) (thematic-index .1) in (
       (λ i.
           record {
@@ -45,10 +47,14 @@ one-column c d u v w x e =
 pub same-columns : (cs ds : List Column) → WellFormedColumns cs → WellFormedColumns ds → (u v : List ℕ)
     → printedColumns cs ++ (semicolon ∷ u) ≡ printedColumns ds ++ (semicolon ∷ v) → cs ≡ ds
 same-columns [] [] w x u v e = refl
-same-columns [] (d ∷ ds) w x u v e = absurd (column-not-end d (x .0) _ u (sym (e ∙ append-assoc (printedColumn d) (printedColumns ds) (semicolon ∷ v))))
-same-columns (c ∷ cs) [] w x u v e = absurd (column-not-end c (w .0) _ v (sym (append-assoc (printedColumn c) (printedColumns cs) (semicolon ∷ u)) ∙ e))
+same-columns [] (d ∷ ds) w x u v e = absurd
+    (column-not-end d (x .0) _ u (sym (e ∙ append-assoc (printedColumn d) (printedColumns ds) (semicolon ∷ v))))
+same-columns (c ∷ cs) [] w x u v e = absurd
+    (column-not-end c (w .0) _ v (sym (append-assoc (printedColumn c) (printedColumns cs) (semicolon ∷ u)) ∙ e))
 same-columns (c ∷ cs) (d ∷ ds) w x u v e =
-    let r = one-column c d _ _ (w .0) (x .0) (sym (append-assoc (printedColumn c) (printedColumns cs) (semicolon ∷ u)) ∙ e ∙ append-assoc (printedColumn d) (printedColumns ds) (semicolon ∷ v)) in
+    let r = one-column c d _ _ (w .0) (x .0)
+    (sym (append-assoc (printedColumn c) (printedColumns cs) (semicolon ∷ u)) ∙ e
+    ∙ append-assoc (printedColumn d) (printedColumns ds) (semicolon ∷ v)) in
     let t = same-columns cs ds (w .1) (x .1) u v (r .1) in
     λ i. r .0 i ∷ t i
 
@@ -67,10 +73,13 @@ same-mark letterM letterL e = let z : _≡_ {A = ℕ} 77 76 = heads e .0 in absu
 
 pub one-reading : (h k : Reading) → WellFormed h → WellFormed k → printed h ≡ printed k → h ≡ k
 one-reading h k w x e =
-    let mark = one-cut semicolon (printedMark (h .mark)) (printedMark (k .mark)) _ _ (mark-lacks-semicolon (h .mark)) (mark-lacks-semicolon (k .mark)) e in
+    let mark = one-cut semicolon (printedMark (h .mark)) (printedMark (k .mark)) _ _ (mark-lacks-semicolon (h .mark))
+    (mark-lacks-semicolon (k .mark)) e in
     let m = same-mark (h .mark) (k .mark) (mark .0) in
-    let description = one-cut semicolon (h .description) (k .description) _ _ (table-description-lacks h w) (table-description-lacks k x) (mark .1) in
-    let narrative = one-cut semicolon (h .narrative) (k .narrative) _ _ (table-narrative-lacks h w) (table-narrative-lacks k x) (description .1) in
+    let description = one-cut semicolon (h .description) (k .description) _ _ (table-description-lacks h w)
+    (table-description-lacks k x) (mark .1) in
+    let narrative = one-cut semicolon (h .narrative) (k .narrative) _ _ (table-narrative-lacks h w)
+    (table-narrative-lacks k x) (description .1) in
     let columns = same-columns (h .columns) (k .columns) (w .columns) (x .columns) [] [] (narrative .1) in
     λ i. record { mark = m i; description = description .0 i; narrative = narrative .0 i; columns = columns i }
 

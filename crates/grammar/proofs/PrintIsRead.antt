@@ -19,7 +19,8 @@ use Rattle.grammar.specs.declared.Field.the-variants.{OrderLetter, Table
 use Rattle.grammar.specs.declared.Field.the-variants.{Key, Description, ValueTable, ThematicIndex, Narrative, ColumnEnd, TextEnd}
 use Rattle.grammar.specs.declared.Spot.{Spot}
 use Rattle.grammar.proofs.ByteClasses.{Holds, Word, takes-exactly, text-word}
-use Rattle.grammar.proofs.MachineMoves.{closed, take-step, close-step, star-step, not-own, own}
+use Rattle.grammar.specs.Serving.Passing.{closed}
+use Rattle.grammar.proofs.MachineMoves.{take-step, close-step, star-step, not-own, own}
 
 -- ---- words of the paper
 
@@ -69,12 +70,14 @@ module _ (P : Spot → Type 0) where
   feed f cols rest r (b ∷ v) n ok short long =
       let t = takes-exactly f n b .1 (omega arith, rw add-zero at (ok 0 (omega arith))) in
       rw (take-step f n cols b t)
-      (feed f cols rest r v (n + 1) (λ k h. subst (λ (j : ℕ). Holds (rule f .holds) j (getD v k 0)) (shift n k) (ok (suc k) (omega arith))) (omega arith) (omega arith))
+      (feed f cols rest r v (n + 1) (λ k h. subst (λ (j : ℕ). Holds (rule f .holds) j (getD v k 0)) (shift n k)
+      (ok (suc k) (omega arith))) (omega arith) (omega arith))
     where
       shift : (n k : ℕ) → n + suc k ≡ n + 1 + k
       shift n k = omega arith
 
-  pub field-in : (f : Field) (cols : ℕ) (rest v : List ℕ) → Word f v → Leads rest (closed f cols) → Leads (v ++ (rule f .closer ∷ rest)) (spot f 0 cols)
+  pub field-in : (f : Field) (cols : ℕ) (rest v : List ℕ) → Word f v → Leads rest (closed f cols)
+      → Leads (v ++ (rule f .closer ∷ rest)) (spot f 0 cols)
   field-in f cols rest v w r =
       feed f cols rest r v 0 (λ k h. rw zero-add (w .bytes k h)) (omega (arith, w .short)) (omega (arith, w .long))
 
@@ -89,7 +92,8 @@ module _ (P : Spot → Type 0) where
       rw e (rw (star-step Numeral 0 cols star refl refl refl refl) (rw (close-step AfterStar 0 cols comma refl refl) r))
   count-in cols w rest (inr v) r = field-in Numeral cols rest w (numeral-word w v) r
 
-  pub column-in : (c : Column) (cols : ℕ) (rest : List ℕ) → WellFormedColumn c → Leads rest (spot Name 0 (cols + 1)) → Leads (printedColumn c ++ rest) (spot Name 0 cols)
+  pub column-in : (c : Column) (cols : ℕ) (rest : List ℕ) → WellFormedColumn c → Leads rest (spot Name 0 (cols + 1))
+      → Leads (printedColumn c ++ rest) (spot Name 0 cols)
   column-in c cols rest w r =
       let from-narrative = c .narrative ++ (comma ∷ (colon ∷ rest)) in
       let from-thematic-index = c .thematicIndex ++ (comma ∷ from-narrative) in
@@ -102,9 +106,12 @@ module _ (P : Spot → Type 0) where
       (field-in Kind cols from-count (c .type ∷ []) (one-byte Kind (c .type) (omega arith) (omega arith) (w .type))
       (count-in cols (c .count) from-key (w .count)
       (field-in Key cols from-description (c .key ∷ []) (one-byte Key (c .key) (omega arith) (omega arith) (w .key))
-      (field-in Description cols from-value-table (c .description) (text-word Description words.Plain (c .description) (λ k b h. h) (w .description))
-      (field-in ValueTable cols from-thematic-index (c .valueTable) (text-word ValueTable words.Plain (c .valueTable) (λ k b h. h) (w .value-table))
-      (field-in ThematicIndex cols from-narrative (c .thematicIndex) (text-word ThematicIndex words.Plain (c .thematicIndex) (λ k b h. h) (w .thematic-index))
+      (field-in Description cols from-value-table (c .description)
+      (text-word Description words.Plain (c .description) (λ k b h. h) (w .description))
+      (field-in ValueTable cols from-thematic-index (c .valueTable)
+      (text-word ValueTable words.Plain (c .valueTable) (λ k b h. h) (w .value-table))
+      (field-in ThematicIndex cols from-narrative (c .thematicIndex)
+      (text-word ThematicIndex words.Plain (c .thematicIndex) (λ k b h. h) (w .thematic-index))
       (field-in Narrative cols (colon ∷ rest) (c .narrative) (text-word Narrative words.Plain (c .narrative) (λ k b h. h) (w .narrative))
       (field-in ColumnEnd cols rest [] (no-byte ColumnEnd (omega arith)) r)))))))))
 
@@ -122,6 +129,8 @@ module _ (P : Spot → Type 0) where
   pub text-in : (h : Reading) → WellFormed h → P (spot TextEnd 0 (length (h .columns))) → Leads (printed h) start
   text-in h w p =
       field-in OrderLetter 0 _ (printedMark (h .mark)) (mark-word (h .mark))
-      (field-in TableDescription 0 _ (h .description) (text-word TableDescription (λ b. Printable b × words.NoSemicolon b) (h .description) (λ k b x. x) (w .description))
-      (field-in TableNarrative 0 _ (h .narrative) (text-word TableNarrative (λ b. Printable b × words.NoSemicolon b) (h .narrative) (λ k b x. x) (w .narrative))
+      (field-in TableDescription 0 _ (h .description)
+      (text-word TableDescription (λ b. Printable b × words.NoSemicolon b) (h .description) (λ k b x. x) (w .description))
+      (field-in TableNarrative 0 _ (h .narrative)
+      (text-word TableNarrative (λ b. Printable b × words.NoSemicolon b) (h .narrative) (λ k b x. x) (w .narrative))
       (columns-in (h .columns) 0 (w .columns) (omega (arith, w .one-or-more)) (rw zero-add p))))

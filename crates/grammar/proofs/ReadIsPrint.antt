@@ -28,7 +28,8 @@ use Rattle.grammar.specs.declared.Special.{Special}
 use Rattle.grammar.specs.declared.Special.the-variants.{Usual, ColumnsMayEnd, StarMayStand, ColumnIsWhole, TextIsWhole}
 use Rattle.grammar.specs.declared.Spot.{Spot}
 use Rattle.grammar.proofs.ByteClasses.{Holds, Word, takes-exactly, word-text}
-use Rattle.grammar.proofs.MachineMoves.{closed, closes-says, Way, taken, shut, over, starred, barred, way}
+use Rattle.grammar.specs.Serving.Passing.{closed}
+use Rattle.grammar.proofs.MachineMoves.{closes-says, Way, taken, shut, over, starred, barred, way}
 use Rattle.grammar.proofs.PrintIsRead.{Leads, column-then}
 
 -- ---- words of the paper
@@ -94,7 +95,8 @@ module _ (P : Spot → Type 0) (f : Field) (n cols : ℕ) (s : List ℕ) where
     ended : Over → Outcome
     star-stands : Starred → Outcome
 
-more : (P : Spot → Type 0) (f : Field) (n cols b : ℕ) (bs : List ℕ) → n < rule f .most → Holds (rule f .holds) n b → Outcome P f (n + 1) cols bs → Outcome P f n cols (b ∷ bs)
+more : (P : Spot → Type 0) (f : Field) (n cols b : ℕ) (bs : List ℕ) → n < rule f .most → Holds (rule f .holds) n b
+    → Outcome P f (n + 1) cols bs → Outcome P f n cols (b ∷ bs)
 more P f n cols b bs m h (ended o) = let z : ⊥ = omega (arith, o .at-start) in absurd z
 more P f n cols b bs m h (star-stands o) = let z : ⊥ = omega (arith, o .at-start) in absurd z
 more P f n cols b bs m h (parsed p) =
@@ -116,11 +118,13 @@ more P f n cols b bs m h (parsed p) =
     at (suc k) l = subst (λ (j : ℕ). Holds (rule f .holds) j (getD (p .word) k 0)) (shift k) (p .bytes k (omega arith))
 
 module _ (P : Spot → Type 0) (whole : (st : Spot) → P st → rule (st .field) .special ≡ TextIsWhole) where
-  parse : (f : Field) (cols : ℕ) → (rule f .special ≡ TextIsWhole → ⊥) → (s : List ℕ) (n : ℕ) → n ≤ rule f .most → Leads P s (spot f n cols) → Outcome P f n cols s
+  parse : (f : Field) (cols : ℕ) → (rule f .special ≡ TextIsWhole → ⊥) → (s : List ℕ) (n : ℕ) → n ≤ rule f .most
+      → Leads P s (spot f n cols) → Outcome P f n cols s
   parse f cols l [] n m a = absurd (l (whole (spot f n cols) a))
   parse f cols l (b ∷ bs) n m a = by (machine (spot f n cols) b) (way f n cols b) a (λ h r. parse f cols l bs (n + 1) h r)
     where
-      by : (o : Next Spot) → Way f n cols b o → onNext (Leads P bs) o → (n + 1 ≤ rule f .most → Leads P bs (spot f (n + 1) cols) → Outcome P f (n + 1) cols bs)
+      by : (o : Next Spot) → Way f n cols b o → onNext (Leads P bs) o
+          → (n + 1 ≤ rule f .most → Leads P bs (spot f (n + 1) cols) → Outcome P f (n + 1) cols bs)
           → Outcome P f n cols (b ∷ bs)
       by _ (taken e) a ih =
           let t = takes-exactly f n b .0 e in
@@ -140,7 +144,15 @@ module _ (P : Spot → Type 0) (whole : (st : Spot) → P st → rule (st .field
           none-below : (k : ℕ) → k < 0 → ⊥
           none-below k j = omega arith
       by _ (over e) a ih =
-          ended (record { special = e .special; at-start = e .at-start; some = e .some; rest = bs; text = ap (λ (c : ℕ). c ∷ bs) (e .byte); next = a })
+          ended (record {
+            special = e .special;
+            at-start = e .at-start;
+            some = e .some;
+            rest = bs;
+            text = ap
+                (λ (c : ℕ). c ∷ bs) (e .byte);
+            next = a;
+          })
       by _ (starred e) a ih =
           star-stands (record { special = e .special; at-start = e .at-start; rest = bs; text = ap (λ (c : ℕ). c ∷ bs) (e .byte); next = a })
       by _ barred a ih = absurd a
@@ -235,7 +247,8 @@ module _ (P : Spot → Type 0) (whole : (st : Spot) → P st → rule (st .field
       let end = read ColumnEnd cols tt (narrative .rest) (narrative .next) in
       joined kind count key description value-table thematic-index narrative end
     where
-      joined : (kind : Found Kind cols (name .rest)) (count : Counted cols (kind .rest)) (key : Found Key cols (count .rest)) (description : Found Description cols (key .rest))
+      joined : (kind : Found Kind cols (name .rest)) (count : Counted cols (kind .rest))
+          (key : Found Key cols (count .rest)) (description : Found Description cols (key .rest))
           (value-table : Found ValueTable cols (description .rest)) (thematic-index : Found ThematicIndex cols (value-table .rest))
           (narrative : Found Narrative cols (thematic-index .rest)) (end : Found ColumnEnd cols (narrative .rest)) → ColumnRead cols s
       joined kind count key description value-table thematic-index narrative end =
@@ -261,7 +274,8 @@ module _ (P : Spot → Type 0) (whole : (st : Spot) → P st → rule (st .field
             thematic-index = word-text ThematicIndex words.Plain (thematic-index .word) (λ k b h. h) (thematic-index .is);
             narrative = word-text Narrative words.Plain (narrative .word) (λ k b h. h) (narrative .is);
           } in
-          let e₉ : narrative .rest ≡ colon ∷ end .rest = end .text ∙ ap (λ (l : List ℕ). l ++ (colon ∷ end .rest)) (no-bytes (end .word) (end .is .short)) in
+          let e₉ : narrative .rest ≡ colon ∷ end .rest = end .text
+          ∙ ap (λ (l : List ℕ). l ++ (colon ∷ end .rest)) (no-bytes (end .word) (end .is .short)) in
           let e₈ = narrative .text ∙ ap (λ (l : List ℕ). narrative .word ++ (comma ∷ l)) e₉ in
           let e₇ = thematic-index .text ∙ ap (λ (l : List ℕ). thematic-index .word ++ (comma ∷ l)) e₈ in
           let e₆ = value-table .text ∙ ap (λ (l : List ℕ). value-table .word ++ (comma ∷ l)) e₇ in
@@ -304,7 +318,8 @@ module _ (P : Spot → Type 0) (whole : (st : Spot) → P st → rule (st .field
       record {
         columns = r .column ∷ q .columns;
         well-formed = (r .well-formed, q .well-formed);
-        text = r .text ∙ ap (λ (l : List ℕ). printedColumn (r .column) ++ l) (q .text) ∙ sym (append-assoc (printedColumn (r .column)) (printedColumns (q .columns)) (semicolon ∷ []));
+        text = r .text ∙ ap (λ (l : List ℕ). printedColumn (r .column) ++ l) (q .text)
+            ∙ sym (append-assoc (printedColumn (r .column)) (printedColumns (q .columns)) (semicolon ∷ []));
         some = omega (arith, q .some);
         reached = subst (λ (k : ℕ). P (spot TextEnd 0 k)) (shift cols (length (q .columns))) (q .reached);
       }
@@ -314,8 +329,10 @@ module _ (P : Spot → Type 0) (whole : (st : Spot) → P st → rule (st .field
 
   -- the text that is left grows shorter with each column
   columns-out : (fuel cols : ℕ) (s : List ℕ) → length s ≤ fuel → Leads P s (spot Name 0 cols) → ColumnsRead cols s
-  columns-out zero cols s h a = columns-by cols s (λ r l b. let z : ⊥ = omega arith in absurd z) (parse Name cols (λ e. clash (cc e)) s 0 (omega arith) a)
-  columns-out (suc fuel) cols s h a = columns-by cols s (λ r l b. columns-out fuel (cols + 1) r (omega arith) b) (parse Name cols (λ e. clash (cc e)) s 0 (omega arith) a)
+  columns-out zero cols s h a = columns-by cols s (λ r l b. let z : ⊥ = omega arith in absurd z)
+      (parse Name cols (λ e. clash (cc e)) s 0 (omega arith) a)
+  columns-out (suc fuel) cols s h a = columns-by cols s (λ r l b. columns-out fuel (cols + 1) r (omega arith) b)
+      (parse Name cols (λ e. clash (cc e)) s 0 (omega arith) a)
 
   -- ---- the text, read
 

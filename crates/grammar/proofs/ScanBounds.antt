@@ -14,8 +14,7 @@ use Rattle.grammar.specs.declared.Special.the-variants.{Usual, ColumnsMa
 use Rattle.grammar.specs.declared.Spot.{Spot}
 use Rattle.grammar.specs.declared.Move.{Move}
 use Rattle.grammar.specs.declared.Move.the-variants.{To, Stop}
-use Rattle.grammar.specs.declared.Scan.{Scan}
-use Rattle.grammar.specs.declared.Scan.the-variants.{Columns, BadByte}
+use Rattle.grammar.specs.declared.Scan.the-variants.{BadByte}
 
 -- what holds of a spot after at most i bytes
 pub record Bound (i : ℕ) (s : Spot) : Type 0 where

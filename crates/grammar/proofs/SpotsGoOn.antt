@@ -17,7 +17,8 @@ use Rattle.grammar.specs.declared.Field.the-variants.{Key, Description, 
 use Rattle.grammar.specs.declared.Special.the-variants.{TextIsWhole}
 use Rattle.grammar.specs.declared.Spot.{Spot}
 use Rattle.grammar.proofs.ByteClasses.{Word, takes-exactly}
-use Rattle.grammar.proofs.MachineMoves.{closed, Way, taken, shut, over, starred, barred, way}
+use Rattle.grammar.specs.Serving.Passing.{closed}
+use Rattle.grammar.proofs.MachineMoves.{Way, taken, shut, over, starred, barred, way}
 use Rattle.grammar.proofs.PrintIsRead.{Leads, feed, field-in, end-in, one-byte, no-byte}
 
 -- the text is whole
@@ -83,7 +84,8 @@ module _ (cols : ℕ) where
 
   -- the count 1
   from-count : GoesOn (spot Numeral 0 cols)
-  from-count = word-then Numeral (49 ∷ []) (one-byte Numeral 49 (omega arith) (omega arith) ((omega arith, omega arith), λ z q. omega arith)) from-key
+  from-count = word-then Numeral (49 ∷ [])
+      (one-byte Numeral 49 (omega arith) (omega arith) ((omega arith, omega arith), λ z q. omega arith)) from-key
 
   from-type : GoesOn (spot Kind 0 cols)
   from-type = word-then Kind (45 ∷ []) (one-byte Kind 45 (omega arith) (omega arith) dash) from-count
@@ -92,13 +94,15 @@ module _ (cols : ℕ) where
   from-name = word-then Name (45 ∷ []) (one-byte Name 45 (omega arith) (omega arith) dash) from-type
 
   from-table-narrative : GoesOn (spot TableNarrative 0 cols)
-  from-table-narrative = word-then TableNarrative (45 ∷ []) (one-byte TableNarrative 45 (omega arith) (omega arith) (dash .printable, dash .no-semicolon)) from-name
+  from-table-narrative = word-then TableNarrative (45 ∷ [])
+      (one-byte TableNarrative 45 (omega arith) (omega arith) (dash .printable, dash .no-semicolon)) from-name
 
   from-table-description : GoesOn (spot TableDescription 0 cols)
   from-table-description = word-then TableDescription [] (no-byte TableDescription (omega arith)) from-table-narrative
 
   -- after n bytes of a field: its closer, where the field may end there; else none of its bytes has been read
-  after : (f : Field) (n : ℕ) → rule f .least ≤ 1 → n ≤ rule f .most → GoesOn (closed f cols) → (rule f .least ≡ 1 → GoesOn (spot f 0 cols)) → GoesOn (spot f n cols)
+  after : (f : Field) (n : ℕ) → rule f .least ≤ 1 → n ≤ rule f .most → GoesOn (closed f cols)
+      → (rule f .least ≡ 1 → GoesOn (spot f 0 cols)) → GoesOn (spot f n cols)
   after f n l m g h =
       by-cases (decLe (rule f .least) n)
       (λ c. (rule f .closer ∷ g .0, feed Whole f cols (g .0) (g .1) [] n (λ k j. absurd (none k j)) (omega arith) (omega arith)))

@@ -1,3 +1,4 @@
 pub mod Words
 pub mod Fields
 pub mod Scan
+pub mod Serving

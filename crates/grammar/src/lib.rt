@@ -1,8 +1,10 @@
-// The grammar of a header text: a machine that reads it byte by byte.
+// The grammar of a header text: a machine that reads it byte by byte, and a way past a text of the grammar field by field.
 ghost use mathlib.Core.Path.{_≡_};
-ghost use Prim.Native.Nat.{_+_, _<_, _^_};
+ghost use Prim.Native.Nat.{_+_, _≤_, _<_, _^_};
+ghost use lib.ListN.{length};
 ghost use Rattle.grammar.specs.Fields.{asks, rule, printable, letter, plain, digit, holds, allowed};
-ghost use Rattle.grammar.specs.Scan.{takes, closes, ends, stars, columnsAfter, move, finish, scanOf};
+ghost use Rattle.grammar.specs.Scan.{takes, closes, ends, stars, columnsAfter, move, finish, spot, scanOf};
+ghost use Rattle.grammar.specs.Serving.Passing.{specialMove, pastMove, stands, Run, Shut, Past, closed};
 
 // The fields of the text in their order; of a column from Name to ColumnEnd.
 pub enum Field {
@@ -68,7 +70,14 @@ pub enum Scan {
 
 // A row of the table below, in the order of its columns: least and most bytes, which bytes, the byte that closes the field, the
 // field after it, and what is special.
-fn asks_for(least: usize, most: usize, holds: Class, closer: u8, next: Field, special: Special) -> Rule
+fn asks_for(
+    least: usize,
+    most: usize,
+    holds: Class,
+    closer: u8,
+    next: Field,
+    special: Special,
+) -> Rule
     ensures { λ r. ⌜ r ≡ asks least most holds closer next special ⌝ }
 {
     Rule {
@@ -86,20 +95,83 @@ fn rule_of(field: Field) -> Rule
     ensures { λ r. ⌜ r ≡ rule field ⌝ }
 {
     match field {
-        Field::OrderLetter => asks_for(0, 1, Class::Letters, b';', Field::TableDescription, Special::Usual),
-        Field::TableDescription => asks_for(0, 80, Class::NoSemicolon, b';', Field::TableNarrative, Special::Usual),
-        Field::TableNarrative => asks_for(1, 12, Class::NoSemicolon, b';', Field::Name, Special::Usual),
-        Field::Name => asks_for(1, 24, Class::Plain, b'=', Field::Kind, Special::ColumnsMayEnd),
+        Field::OrderLetter => asks_for(
+            0,
+            1,
+            Class::Letters,
+            b';',
+            Field::TableDescription,
+            Special::Usual,
+        ),
+        Field::TableDescription => asks_for(
+            0,
+            80,
+            Class::NoSemicolon,
+            b';',
+            Field::TableNarrative,
+            Special::Usual,
+        ),
+        Field::TableNarrative => asks_for(
+            1,
+            12,
+            Class::NoSemicolon,
+            b';',
+            Field::Name,
+            Special::Usual,
+        ),
+        Field::Name => asks_for(
+            1,
+            24,
+            Class::Plain,
+            b'=',
+            Field::Kind,
+            Special::ColumnsMayEnd,
+        ),
         Field::Kind => asks_for(1, 1, Class::Plain, b',', Field::Numeral, Special::Usual),
         Field::Numeral => asks_for(1, 5, Class::Digits, b',', Field::Key, Special::StarMayStand),
         Field::AfterStar => asks_for(0, 0, Class::Plain, b',', Field::Key, Special::Usual),
         Field::Key => asks_for(1, 1, Class::Plain, b',', Field::Description, Special::Usual),
-        Field::Description => asks_for(0, 80, Class::Plain, b',', Field::ValueTable, Special::Usual),
-        Field::ValueTable => asks_for(1, 12, Class::Plain, b',', Field::ThematicIndex, Special::Usual),
-        Field::ThematicIndex => asks_for(1, 12, Class::Plain, b',', Field::Narrative, Special::Usual),
+        Field::Description => asks_for(
+            0,
+            80,
+            Class::Plain,
+            b',',
+            Field::ValueTable,
+            Special::Usual,
+        ),
+        Field::ValueTable => asks_for(
+            1,
+            12,
+            Class::Plain,
+            b',',
+            Field::ThematicIndex,
+            Special::Usual,
+        ),
+        Field::ThematicIndex => asks_for(
+            1,
+            12,
+            Class::Plain,
+            b',',
+            Field::Narrative,
+            Special::Usual,
+        ),
         Field::Narrative => asks_for(1, 12, Class::Plain, b',', Field::ColumnEnd, Special::Usual),
-        Field::ColumnEnd => asks_for(0, 0, Class::Plain, b':', Field::Name, Special::ColumnIsWhole),
-        Field::TextEnd => asks_for(1, 0, Class::Plain, b';', Field::TextEnd, Special::TextIsWhole),
+        Field::ColumnEnd => asks_for(
+            0,
+            0,
+            Class::Plain,
+            b':',
+            Field::Name,
+            Special::ColumnIsWhole,
+        ),
+        Field::TextEnd => asks_for(
+            1,
+            0,
+            Class::Plain,
+            b';',
+            Field::TextEnd,
+            Special::TextIsWhole,
+        ),
     }
 }
 
@@ -171,9 +243,8 @@ fn takes_byte(field: Field, n: usize, byte: u8) -> bool
     ensures { λ r. ⌜ r ≡ takes field n byte ⌝ }
 {
     let rule = rule_of(field);
-    let most = rule.most;
     let class = rule.holds;
-    if n < most {
+    if n < rule.most {
         is_allowed(class, n, byte)
     } else {
         false
@@ -185,9 +256,11 @@ fn closes_at(field: Field, n: usize, byte: u8) -> bool
     ensures { λ r. ⌜ r ≡ closes field n byte ⌝ }
 {
     let rule = rule_of(field);
-    let closer = rule.closer;
-    let least = rule.least;
-    if byte == closer { least <= n } else { false }
+    if byte == rule.closer {
+        rule.least <= n
+    } else {
+        false
+    }
 }
 
 // Whether the byte ends the columns: where a name would start, after one column at least.
@@ -214,9 +287,7 @@ fn is_star(special: Special, n: usize, byte: u8) -> bool
     ensures { λ r. ⌜ r ≡ stars special n byte ⌝ }
 {
     match special {
-        Special::StarMayStand => {
-            if byte == b'*' { n == 0 } else { false }
-        }
+        Special::StarMayStand => { if byte == b'*' { n == 0 } else { false } }
         Special::Usual => false,
         Special::ColumnsMayEnd => false,
         Special::ColumnIsWhole => false,
@@ -238,30 +309,11 @@ fn columns_after(special: Special, cols: usize) -> usize
     }
 }
 
-// What the byte does to a reading. No reading of a text has 2^64 - 1 bytes of a field or whole columns behind it.
-fn step(at: Spot, byte: u8) -> Move
-    requires { ⌜ (at .n + 1 < 2 ^ 64) × (at .cols + 1 < 2 ^ 64) ⌝ }
-    ensures { λ r. ⌜ r ≡ move at byte ⌝ }
+// What a byte does to a reading that neither takes it into its field nor closes the field by it.
+fn step_specially(special: Special, n: usize, cols: usize, byte: u8) -> Move
+    ensures { λ r. ⌜ r ≡ specialMove special n cols byte ⌝ }
 {
-    let field = at.field;
-    let n = at.n;
-    let cols = at.cols;
-    let rule = rule_of(field);
-    let next = rule.next;
-    let special = rule.special;
-    if takes_byte(field, n, byte) {
-        Move::To(Spot {
-            field: field,
-            n: n + 1,
-            cols: cols,
-        })
-    } else if closes_at(field, n, byte) {
-        Move::To(Spot {
-            field: next,
-            n: 0,
-            cols: columns_after(special, cols),
-        })
-    } else if ends_columns(special, n, cols, byte) {
+    if ends_columns(special, n, cols, byte) {
         Move::To(Spot {
             field: Field::TextEnd,
             n: 0,
@@ -278,6 +330,44 @@ fn step(at: Spot, byte: u8) -> Move
     }
 }
 
+// What a byte does to a reading that does not take it into its field.
+fn step_past(field: Field, n: usize, cols: usize, byte: u8) -> Move
+    requires { ⌜ cols + 1 < 2 ^ 64 ⌝ }
+    ensures { λ r. ⌜ r ≡ pastMove field n cols byte ⌝ }
+{
+    let rule = rule_of(field);
+    let next = rule.next;
+    let special = rule.special;
+    if closes_at(field, n, byte) {
+        Move::To(Spot {
+            field: next,
+            n: 0,
+            cols: columns_after(special, cols),
+        })
+    } else {
+        step_specially(special, n, cols, byte)
+    }
+}
+
+// What the byte does to a reading. No reading of a text has 2^64 - 1 bytes of a field or whole columns behind it.
+fn step(at: Spot, byte: u8) -> Move
+    requires { ⌜ (at .n + 1 < 2 ^ 64) × (at .cols + 1 < 2 ^ 64) ⌝ }
+    ensures { λ r. ⌜ r ≡ move at byte ⌝ }
+{
+    let field = at.field;
+    let n = at.n;
+    let cols = at.cols;
+    if takes_byte(field, n, byte) {
+        Move::To(Spot {
+            field: field,
+            n: n + 1,
+            cols: cols,
+        })
+    } else {
+        step_past(field, n, cols, byte)
+    }
+}
+
 // What a reading that stands at the end of its text, of n bytes, has found.
 fn finish_at(n: usize, special: Special, cols: usize) -> Scan
     ensures { λ r. ⌜ r ≡ finish n special cols ⌝ }
@@ -291,8 +381,8 @@ fn finish_at(n: usize, special: Special, cols: usize) -> Scan
     }
 }
 
-// The number of columns of a header text, or the first byte that cannot continue: the text's length where it ends too soon.
-pub fn scan_text(text: &[u8]) -> Scan
+// The number of columns of a header text, or the first byte that cannot continue, found byte by byte.
+fn scan_bytes(text: &[u8]) -> Scan
     ensures { λ r. ⌜ r ≡ scanOf (now (text .entry)) ⌝ }
 {
     let mut at = Spot {
@@ -316,4 +406,176 @@ pub fn scan_text(text: &[u8]) -> Scan
     let rule = rule_of(field);
     let special = rule.special;
     finish_at(i, special, at.cols)
+}
+
+// ---- A text of the grammar passed field by field: each function answers the place past what it passes, or 0 where that does not stand
+// there. From 0 the next ones answer 0, so that only the last answer is looked at.
+
+// The lesser of two numbers.
+fn lesser(a: usize, b: usize) -> usize
+    ensures { λ r. ⌜ (r ≤ a) × (r ≤ b) ⌝ }
+{
+    if a < b { a } else { b }
+}
+
+// How many bytes from a place on may stand in a field of the class that has at most so many.
+fn run_of(class: Class, text: &[u8], from: usize, most: usize) -> usize
+    requires { ⌜ from ≤ length (now text) ⌝ }
+    ensures { λ r. ⌜ Run (now (text .entry)) class most from r ⌝ }
+{
+    let room = lesser(most, text.len() - from);
+    let mut n = 0;
+    while n < room {
+        if is_allowed(class, n, text[from + n]) {
+            n += 1;
+        } else {
+            return n;
+        }
+    }
+    n
+}
+
+// The same of the class that nearly all fields have. It stands by itself so that the test is not chosen anew for each byte.
+fn run_of_plain(text: &[u8], from: usize, most: usize) -> usize
+    requires { ⌜ from ≤ length (now text) ⌝ }
+    ensures { λ r. ⌜ Run (now (text .entry)) Class.Plain most from r ⌝ }
+{
+    let room = lesser(most, text.len() - from);
+    let mut n = 0;
+    while n < room {
+        if is_allowed(Class::Plain, n, text[from + n]) {
+            n += 1;
+        } else {
+            return n;
+        }
+    }
+    n
+}
+
+// Whether the byte stands at the place.
+fn stands_at(text: &[u8], place: usize, byte: u8) -> bool
+    ensures { λ r. ⌜ r ≡ stands (now (text .entry)) place byte ⌝ }
+{
+    if place < text.len() {
+        text[place] == byte
+    } else {
+        false
+    }
+}
+
+// The place past the byte that closes a field, of n bytes from a place on; or 0.
+fn past_closer(text: &[u8], from: usize, n: usize, least: usize, closer: u8) -> usize
+    requires { ⌜ from + n ≤ length (now text) ⌝ }
+    ensures { λ r. ⌜ (0 < r → Shut (now (text .entry)) from n least closer r) ⌝ }
+{
+    let end = from + n;
+    if n < least {
+        return 0;
+    }
+    if stands_at(text, end, closer) {
+        end + 1
+    } else {
+        0
+    }
+}
+
+// The place past a field and its closer; or 0.
+fn past_field(text: &[u8], from: usize, field: Field) -> usize
+    requires { ⌜ from ≤ length (now text) ⌝ }
+    ensures { λ r. ⌜ Past (now (text .entry)) from r (spot field 0) (closed field) ⌝ }
+{
+    let rule = rule_of(field);
+    let class = rule.holds;
+    let n = run_of(class, text, from, rule.most);
+    past_closer(text, from, n, rule.least, rule.closer)
+}
+
+// The same of a field that holds plain bytes; from 0 it is 0.
+fn past_plain(text: &[u8], from: usize, field: Field) -> usize
+    requires { ⌜ (from ≤ length (now text)) × (rule field .holds ≡ Class.Plain) ⌝ }
+    ensures { λ r. ⌜ (0 < r → 0 < from) × Past (now (text .entry)) from r (spot field 0) (closed field) ⌝ }
+{
+    if from == 0 {
+        return 0;
+    }
+    let rule = rule_of(field);
+    let n = run_of_plain(text, from, rule.most);
+    past_closer(text, from, n, rule.least, rule.closer)
+}
+
+// The place past a count, a star or digits, and its closer; or 0.
+fn past_count(text: &[u8], from: usize) -> usize
+    requires { ⌜ from ≤ length (now text) ⌝ }
+    ensures { λ r. ⌜ (0 < r → 0 < from) × Past (now (text .entry)) from r (spot Field.Numeral 0) (spot Field.Key 0) ⌝ }
+{
+    if from == 0 {
+        return 0;
+    }
+    if stands_at(text, from, b'*') {
+        past_plain(text, from + 1, Field::AfterStar)
+    } else {
+        past_field(text, from, Field::Numeral)
+    }
+}
+
+// The place past a column; or 0.
+fn past_column(text: &[u8], from: usize) -> usize
+    requires { ⌜ from ≤ length (now text) ⌝ }
+    ensures { λ r. ⌜ (0 < r → 0 < from) × Past (now (text .entry)) from r (spot Field.Name 0) (λ cols. spot Field.Name 0 (cols + 1)) ⌝ }
+{
+    let at = past_plain(text, from, Field::Name);
+    let at = past_plain(text, at, Field::Kind);
+    let at = past_count(text, at);
+    let at = past_plain(text, at, Field::Key);
+    let at = past_plain(text, at, Field::Description);
+    let at = past_plain(text, at, Field::ValueTable);
+    let at = past_plain(text, at, Field::ThematicIndex);
+    let at = past_plain(text, at, Field::Narrative);
+    past_plain(text, at, Field::ColumnEnd)
+}
+
+// The place past what stands before the columns; or 0.
+fn past_title(text: &[u8]) -> usize
+    ensures { λ r. ⌜ Past (now (text .entry)) 0 r (spot Field.OrderLetter 0) (spot Field.Name 0) ⌝ }
+{
+    let at = past_field(text, 0, Field::OrderLetter);
+    if at == 0 {
+        return 0;
+    }
+    let at = past_field(text, at, Field::TableDescription);
+    if at == 0 {
+        return 0;
+    }
+    past_field(text, at, Field::TableNarrative)
+}
+
+// The number of columns of a text that is in the grammar; or 0.
+fn columns_of(text: &[u8]) -> usize
+    ensures { λ r. ⌜ (0 < r → scanOf (now (text .entry)) ≡ Scan.Columns r) ⌝ }
+{
+    let mut at = past_column(text, past_title(text));
+    if at == 0 {
+        return 0;
+    }
+    let mut cols = 1;
+    while !stands_at(text, at, b';') {
+        at = past_column(text, at);
+        if at == 0 {
+            return 0;
+        }
+        cols += 1;
+    }
+    if at + 1 == text.len() { cols } else { 0 }
+}
+
+// The number of columns of a header text, or the first byte that cannot continue: the text's length where it ends too soon. A text
+// that is in the grammar is passed by its fields; only one that is not is read byte by byte, for the place.
+pub fn scan_text(text: &[u8]) -> Scan
+    ensures { λ r. ⌜ r ≡ scanOf (now (text .entry)) ⌝ }
+{
+    let cols = columns_of(text);
+    if 0 < cols {
+        return Scan::Columns(cols);
+    }
+    scan_bytes(text)
 }

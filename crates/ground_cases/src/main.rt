@@ -2,6 +2,10 @@
 // label and the whole answer. A case is a field of three fields: the label, whose first letter says what is asked, and two of
 // which it is asked.
 ghost use Prim.Native.Nat.{_≤_};
+use casefile::say;
+use casefile::say_bytes;
+use casefile::say_number;
+use casefile::say_refusal;
 use field::Double;
 use field::FieldType;
 use field::Float;
@@ -9,10 +13,8 @@ use field::Integer;
 use field::Lookup;
 use field::NullValue;
 use field::Short;
-use libc::STDOUT_FILENO;
 use number::Order;
 use number::OrderLetter;
-use refusal::Refusal;
 use triplet::Ids;
 use triplet::Triplet;
 use triplet::Written;
@@ -23,21 +25,6 @@ use wave::Judgement;
 const ROW_BEFORE: u8 = 0xee;
 
 const MOST_ROW: usize = 24;
-
-fn say(text: &[u8]) {
-    io::write_all(STDOUT_FILENO, text);
-}
-
-fn say_number(n: u64) {
-    io::print_decimal(STDOUT_FILENO, n);
-}
-
-fn say_refusal(bad: Refusal) {
-    say(b"refused ");
-    say_number(bad.number as u64);
-    say(b" at ");
-    say_number(bad.place as u64);
-}
 
 fn say_yes(answer: bool) {
     if answer {
@@ -50,19 +37,6 @@ fn say_yes(answer: bool) {
 fn say_also(answer: bool) {
     say(b" ");
     say_yes(answer);
-}
-
-// A byte as two hexadecimal digits.
-fn say_byte(b: u8) {
-    io::print_hex(STDOUT_FILENO, b as u64, 2);
-}
-
-fn say_bytes(bytes: &[u8]) {
-    let mut i = 0;
-    while i < bytes.len() {
-        say_byte(bytes[i]);
-        i += 1;
-    }
 }
 
 fn height(text: &[u8]) {

@@ -12,11 +12,12 @@ use Rattle.refusal.specs.declared.Refusal.{Refusal}
 use Rattle.number.specs.Bytes.{number}
 use Rattle.grammar.specs.Words.{Reading, Reads}
 use Rattle.header.specs.declared.Answer.the-variants.{Accepted}
-use Rattle.header.specs.Judge.{mostText, mostColumns, headerRefusal, answered}
+use Rattle.limits.specs.Limits.{mostText, mostColumns}
+use Rattle.header.specs.Judge.{headerRefusal, answered}
 use Rattle.header.specs.Layouts.{headerOf}
 use Rattle.header.specs.Words.{OneId, AcceptedHeader}
 use Rattle.header.specs.Refusals.{SaysLength, textIn, TextReads, OfLength, OfReading, AllSound, NamesDiffer, Test, five-bytes}
-use Rattle.header.specs.Refusals.{order-letter, text-fits, text-limit, in-grammar, columns-sound, at-most-64, names-differ, one-id}
+use Rattle.header.specs.Refusals.{order-letter, text-fits, text-limit, in-grammar, columns-sound, columns-limit, names-differ, one-id}
 use Rattle.header.specs.Refusals.{Holds}
 use Rattle.header.proofs.TestsInWords.{one-text}
 use Rattle.header.proofs.InOrder.{one-length, all-hold-exactly}
@@ -44,7 +45,7 @@ module _ (file : List ℕ) where
   header-holds h a text-limit = (number (a .order) file 0 4, accepted-says h a, a .text-limit)
   header-holds h a in-grammar = (h, accepted-text h a)
   header-holds h a columns-sound = (h, accepted-text h a, a .rules .sound)
-  header-holds h a at-most-64 = (h, accepted-text h a, a .rules .at-most-64)
+  header-holds h a columns-limit = (h, accepted-text h a, a .rules .columns-limit)
   header-holds h a names-differ = (h, accepted-text h a, λ j b i p l. a .rules .names-differ i j b p l)
   header-holds h a one-id = (h, accepted-text h a, a .rules .one-id)
 
@@ -67,7 +68,7 @@ module _ (file : List ℕ) where
           rules =
               record {
                 sound = of-reading AllSound (all columns-sound);
-                at-most-64 = of-reading (λ h. length (h .columns) ≤ mostColumns) (all at-most-64);
+                columns-limit = of-reading (λ h. length (h .columns) ≤ mostColumns) (all columns-limit);
                 names-differ = λ i j b p l. of-reading NamesDiffer (all names-differ) j b i p l;
                 one-id = of-reading OneId (all one-id);
               };

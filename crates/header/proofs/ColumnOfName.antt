@@ -34,7 +34,8 @@ module _ (file : List ℕ) (h : Reading) (a : AcceptedHeader file h) (name : Lis
   column-of-name-only k i =
       ⊎-elim (λ w. absurd (w .1 k i))
       (λ w.
-      one-named (headOf file) h (head-reads file h a) (λ j b i p l. a .rules .names-differ i j b p l) name (columnOf file name) k (w .0) (i .0) (w .1) (i .1))
+      one-named (headOf file) h (head-reads file h a) (λ j b i p l. a .rules .names-differ i j b p l) name
+      (columnOf file name) k (w .0) (i .0) (w .1) (i .1))
       column-of-name
 
 pub refused-no-column : (file name : List ℕ) (n p : ℕ) → RefusedWith file n p → columnOf file name ≡ 0

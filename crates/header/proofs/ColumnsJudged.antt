@@ -73,7 +73,8 @@ module _ (s : List ℕ) (p : ℕ) (c : Column) (d : Definition) (w : Shows s p c
       )))
 
   abbrev CountFits : FieldType → Type 0
-  CountFits t = ((c .count ≡ star ∷ []) × (countRight t true 0 ≡ true)) ⊎ (Numeral (c .count) × (countRight t false (decimal 0 (c .count)) ≡ true))
+  CountFits t = ((c .count ≡ star ∷ []) × (countRight t true 0 ≡ true)) ⊎
+      (Numeral (c .count) × (countRight t false (decimal 0 (c .count)) ≡ true))
 
   star-right : (t : FieldType) (n m : ℕ) → countRight t true n ≡ countRight t true m
   unfolding countRight
@@ -93,7 +94,13 @@ module _ (s : List ℕ) (p : ℕ) (c : Column) (d : Definition) (w : Shows s p c
   sound-as (Is t) e k = (
     λ q.
         let b = both-true (keyListed (d .key)) (countRight t (d .star) (d .count)) q in
-        record { kind = t; listed = e; key = subst (λ (x : ℕ). (x ≡ 80) ⊎ ((x ≡ 85) ⊎ (x ≡ 78))) (w .key) (key-exactly (d .key) .0 (b .0)); count = count-exactly t k .0 (b .1) },
+        record {
+          kind = t;
+          listed = e;
+          key = subst (λ (x : ℕ). (x ≡ 80) ⊎ ((x ≡ 85) ⊎ (x ≡ 78))) (w .key)
+              (key-exactly (d .key) .0 (b .0));
+          count = count-exactly t k .0 (b .1);
+        },
     λ h.
         let same : t ≡ h .kind = cc (e, h .listed) in
         rw (w .key, key-exactly (c .key) .1 (h .key), same) (count-exactly (h .kind) k .1 (h .count)),
@@ -106,7 +113,11 @@ module _ (s : List ℕ) (p : ℕ) (c : Column) (d : Definition) (w : Shows s p c
 
   -- ---- 6: "type I, count 1, key P"
   one-exactly : Count (c .count) → ((not (d .star) ≡ true) × (eqb (d .count) 1 ≡ true)) ↔ (c .count ≡ 49 ∷ [])
-  one-exactly (inl q) = rw (w .star .1 q) (λ e. absurd (true≢false (sym (e .0))), λ e. let z : _≡_ {A = ℕ} 42 49 = ap (λ (l : List ℕ). getD l 0 0) (sym q ∙ e) in absurd (omega arith))
+  one-exactly (inl q) = rw (w .star .1 q) (
+    λ e. absurd (true≢false (sym (e .0))),
+    λ e.
+        let z : _≡_ {A = ℕ} 42 49 = ap (λ (l : List ℕ). getD l 0 0) (sym q ∙ e) in absurd (omega arith),
+  )
   one-exactly (inr v) =
       let n = numeral-shown v in
       rw (n .0, n .1) (λ e. one-is (c .count) v (eqb-true (decimal 0 (c .count)) 1 (e .1)), λ e. rw e (refl, refl))
@@ -114,7 +125,8 @@ module _ (s : List ℕ) (p : ℕ) (c : Column) (d : Definition) (w : Shows s p c
   pub id-sound-exactly : Count (c .count) → (idSound d ≡ true) ↔ ((c .type ≡ 73) × ((c .count ≡ 49 ∷ []) × (c .key ≡ keyP)))
   id-sound-exactly k =
       let o = one-exactly k in
-      let f = and-true _ _ (equal (d .kind) 73) (and-true _ _ (itself (not (d .star))) (and-true _ _ (itself (eqb (d .count) 1)) (equal (d .key) keyP))) in (
+      let f = and-true _ _ (equal (d .kind) 73)
+      (and-true _ _ (itself (not (d .star))) (and-true _ _ (itself (eqb (d .count) 1)) (equal (d .key) keyP))) in (
         λ e. let g = f .0 e in (sym (w .type) ∙ g .0, (o .0 (g .1 .0, g .1 .1 .0), sym (w .key) ∙ g .1 .1 .1)),
         λ g. let b = o .1 (g .1 .0) in f .1 (w .type ∙ g .0, (b .0, (b .1, w .key ∙ g .1 .1))),
       )
@@ -170,7 +182,8 @@ module _ (s : List ℕ) (h : Reading) (r : Reads (drop 4 s) h) where
   unfolding isNamed
   is-named name k i = rw (name-shown k i)
 
-  pub id-sound-at : (k : ℕ) → In columns k → (idSound (column s k) ≡ true) ↔ ((columnAt h k .type ≡ 73) × ((columnAt h k .count ≡ 49 ∷ []) × (columnAt h k .key ≡ keyP)))
+  pub id-sound-at : (k : ℕ) → In columns k
+      → (idSound (column s k) ≡ true) ↔ ((columnAt h k .type ≡ 73) × ((columnAt h k .count ≡ 49 ∷ []) × (columnAt h k .key ≡ keyP)))
   id-sound-at k i = id-sound-exactly s (placeAfter s (pred k)) (columnAt h k) (column s k) (shown k i) (well-formed-at k i .count)
 
   -- no two columns of one name
@@ -178,10 +191,12 @@ module _ (s : List ℕ) (h : Reading) (r : Reads (drop 4 s) h) where
       → sameText (columnAt h i .name) name ≡ true → sameText (columnAt h j .name) name ≡ true → i ≡ j
   one-named d name i j a b e g =
       by-cases (decLt i j) (λ l. absurd (d j b i (a .0) l (same-as-third (columnAt h i .name) (columnAt h j .name) name e g)))
-      (λ l. by-cases (decLt j i) (λ m. absurd (d i a j (b .0) m (same-as-third (columnAt h j .name) (columnAt h i .name) name g e))) (λ m. omega arith))
+      (λ l. by-cases (decLt j i) (λ m. absurd (d i a j (b .0) m
+      (same-as-third (columnAt h j .name) (columnAt h i .name) name g e))) (λ m. omega arith))
 
   -- the column of a name: the lowest that has it, or 0 where none has it
-  pub column-named : (name : List ℕ) → ((columnNamed s columns name ≡ 0) × ((k : ℕ) → In columns k → sameText (columnAt h k .name) name ≡ true → ⊥))
+  pub column-named : (name : List ℕ) → ((columnNamed s columns name ≡ 0)
+      × ((k : ℕ) → In columns k → sameText (columnAt h k .name) name ≡ true → ⊥))
       ⊎ (In columns (columnNamed s columns name) × (sameText (columnAt h (columnNamed s columns name) .name) name ≡ true))
   unfolding columnNamed
   column-named name =
@@ -202,8 +217,10 @@ module _ (s : List ℕ) (h : Reading) (r : Reads (drop 4 s) h) where
   id-exactly d =
       let id = columnNamed s columns idName in
       let rest : (In columns id) → ((not (idSound (column s id)) || ltb 0 (lowest (otherKeyP s id) columns) ≡ false)
-      ↔ (((columnAt h id .type ≡ 73) × ((columnAt h id .count ≡ 49 ∷ []) × (columnAt h id .key ≡ keyP))) × Each columns (λ k. columnAt h k .key ≡ keyP → k ≡ id))) =
-      λ i. or-false _ _ (denied _ (id-sound-at id i)) (none-found (λ k. columnAt h k .key ≡ keyP → k ≡ id) columns (otherKeyP s id) (other-key-exactly id)) in
+      ↔ (((columnAt h id .type ≡ 73) × ((columnAt h id .count ≡ 49 ∷ []) × (columnAt h id .key ≡ keyP)))
+      × Each columns (λ k. columnAt h k .key ≡ keyP → k ≡ id))) =
+      λ i. or-false _ _ (denied _ (id-sound-at id i))
+      (none-found (λ k. columnAt h k .key ≡ keyP → k ≡ id) columns (otherKeyP s id) (other-key-exactly id)) in
       ⊎-elim
       (λ w. rw (w .0) (λ e. absurd (true≢false e), λ o. absurd (w .1 (o .id) (o .within) (o .named))))
       (λ w.

@@ -53,7 +53,8 @@ module _ (s : List ℕ) (p b : ℕ) (xs t : List ℕ) (e : drop p s ≡ xs ++ (b
 
 -- ---- the first byte of a count tells a star from digits
 
-star-first : (w t : List ℕ) → Count w → (eqb (getD (w ++ t) 0 0) star ≡ true → w ≡ star ∷ []) × (w ≡ star ∷ [] → eqb (getD (w ++ t) 0 0) star ≡ true)
+star-first : (w t : List ℕ) → Count w → (eqb (getD (w ++ t) 0 0) star ≡ true → w ≡ star ∷ [])
+    × (w ≡ star ∷ [] → eqb (getD (w ++ t) 0 0) star ≡ true)
 star-first w t (inl q) = (λ h. q, λ h. rw q)
 star-first [] t (inr v) = absurd (omega (arith, v .digits .least-bytes))
 star-first (x ∷ w) t (inr v) =
@@ -64,7 +65,8 @@ star-first (x ∷ w) t (inr v) =
 -- ---- a column's print, at the place p
 
 print-length : (c : Column) → length (printedColumn c)
-    ≡ length (c .name) + length (c .count) + length (c .description) + length (c .valueTable) + length (c .thematicIndex) + length (c .narrative) + 11
+    ≡ length (c .name) + length (c .count) + length (c .description) + length (c .valueTable) + length
+    (c .thematicIndex) + length (c .narrative) + 11
 print-length c = simp length-append (omega arith)
 
 moved : (s : List ℕ) (p q : ℕ) (t : List ℕ) → p ≡ q → drop p s ≡ t → drop q s ≡ t
@@ -97,22 +99,26 @@ module _ (s : List ℕ) (p : ℕ) (c : Column) (rest : List ℕ) (w : WellFormed
   type-stands = field-next s p equals (c .name) (c .type ∷ (comma ∷ from-count)) name-stands (name-lacks-equals c w)
 
   count-stands : drop (nameEnd s p + 3) s ≡ from-count
-  count-stands = moved s (nameEnd s p + 1 + 2) (nameEnd s p + 3) from-count (omega arith) (stands-past s (nameEnd s p + 1) (c .type ∷ (comma ∷ [])) from-count type-stands)
+  count-stands = moved s (nameEnd s p + 1 + 2) (nameEnd s p + 3) from-count (omega arith)
+      (stands-past s (nameEnd s p + 1) (c .type ∷ (comma ∷ [])) from-count type-stands)
 
   key-stands : drop (countEnd s p + 1) s ≡ from-key
   key-stands = field-next s (nameEnd s p + 3) comma (c .count) from-key count-stands (count-lacks c w)
 
   description-stands : drop (countEnd s p + 3) s ≡ from-description
-  description-stands = moved s (countEnd s p + 1 + 2) (countEnd s p + 3) from-description (omega arith) (stands-past s (countEnd s p + 1) (c .key ∷ (comma ∷ [])) from-description key-stands)
+  description-stands = moved s (countEnd s p + 1 + 2) (countEnd s p + 3) from-description (omega arith)
+      (stands-past s (countEnd s p + 1) (c .key ∷ (comma ∷ [])) from-description key-stands)
 
   value-table-stands : drop (descriptionEnd s p + 1) s ≡ from-value-table
   value-table-stands = field-next s (countEnd s p + 3) comma (c .description) from-value-table description-stands (description-lacks c w)
 
   thematic-index-stands : drop (valueTableEnd s p + 1) s ≡ from-thematic-index
-  thematic-index-stands = field-next s (descriptionEnd s p + 1) comma (c .valueTable) from-thematic-index value-table-stands (value-table-lacks c w)
+  thematic-index-stands = field-next s (descriptionEnd s p + 1) comma
+      (c .valueTable) from-thematic-index value-table-stands (value-table-lacks c w)
 
   narrative-stands : drop (thematicIndexEnd s p + 1) s ≡ from-narrative
-  narrative-stands = field-next s (valueTableEnd s p + 1) comma (c .thematicIndex) from-narrative thematic-index-stands (thematic-index-lacks c w)
+  narrative-stands = field-next s (valueTableEnd s p + 1) comma (c .thematicIndex) from-narrative thematic-index-stands
+      (thematic-index-lacks c w)
 
   -- the ends of the fields
   name-end : nameEnd s p ≡ p + length (c .name)
@@ -143,7 +149,8 @@ module _ (s : List ℕ) (p : ℕ) (c : Column) (rest : List ℕ) (w : WellFormed
       ap (λ (l : List ℕ). decimal 0 (take 5 l)) q ∙ ap (decimal 0) (take-all 5 (c .count) (v .digits .most-bytes))
 
   star-byte : getD s (nameEnd s p + 3) 0 ≡ getD from-count 0 0
-  star-byte = ap (λ (k : ℕ). getD s k 0) (sym (add-zero (nameEnd s p + 3))) ∙ sym (getD-drop (nameEnd s p + 3) s 0 0) ∙ ap (λ (l : List ℕ). getD l 0 0) count-stands
+  star-byte = ap (λ (k : ℕ). getD s k 0) (sym (add-zero (nameEnd s p + 3))) ∙ sym (getD-drop (nameEnd s p + 3) s 0 0)
+      ∙ ap (λ (l : List ℕ). getD l 0 0) count-stands
 
   -- THE DEFINITION at the place of a column's print shows the column
   pub shows : Shows s p c (definition s p)
@@ -157,7 +164,8 @@ module _ (s : List ℕ) (p : ℕ) (c : Column) (rest : List ℕ) (w : WellFormed
     key = stands-byte s (countEnd s p + 1) (c .key) (comma ∷ from-description) key-stands;
     description = field-part s (countEnd s p + 3) comma (c .description) from-value-table description-stands (description-lacks c w);
     value-table = field-part s (descriptionEnd s p + 1) comma (c .valueTable) from-thematic-index value-table-stands (value-table-lacks c w);
-    thematic-index = field-part s (valueTableEnd s p + 1) comma (c .thematicIndex) from-narrative thematic-index-stands (thematic-index-lacks c w);
+    thematic-index = field-part s (valueTableEnd s p + 1) comma (c .thematicIndex) from-narrative thematic-index-stands
+        (thematic-index-lacks c w);
     narrative = field-part s (thematicIndexEnd s p + 1) comma (c .narrative) (colon ∷ rest) narrative-stands (narrative-lacks c w);
     after = after-print;
   }
@@ -196,7 +204,8 @@ module _ (s : List ℕ) (h : Reading) (r : Reads (drop 4 s) h) where
   -- THE FIRST DEFINITION'S PLACE is that of the first column's print
   pub first-stands : drop (firstPlace s) s ≡ from-columns
   unfolding firstPlace
-  first-stands = field-next s (tableEnd + 1) semicolon (h .narrative) from-columns table-narrative-stands (table-narrative-lacks h (r .well-formed))
+  first-stands = field-next s (tableEnd + 1) semicolon (h .narrative) from-columns table-narrative-stands
+      (table-narrative-lacks h (r .well-formed))
 
   pub first-place : firstPlace s ≡ 4 + length (printedMark (h .mark)) + length (h .description) + length (h .narrative) + 3
   unfolding firstPlace
@@ -213,7 +222,8 @@ module _ (s : List ℕ) (h : Reading) (r : Reads (drop 4 s) h) where
 
   -- the first of them is the next column's print
   print-first : (k : ℕ) → k < length (h .columns) → from-column k ≡ printedColumn (columnAt h (suc k)) ++ from-column (suc k)
-  print-first k l = rw (drop-cons (h .columns) k noColumn l) (append-assoc (printedColumn (columnAt h (suc k))) (printedColumns (drop (suc k) (h .columns))) (semicolon ∷ []))
+  print-first k l = rw (drop-cons (h .columns) k noColumn l)
+      (append-assoc (printedColumn (columnAt h (suc k))) (printedColumns (drop (suc k) (h .columns))) (semicolon ∷ []))
 
   -- after k columns stand the prints of the others
   pub columns-stand : (k : ℕ) → k ≤ length (h .columns) → drop (placeAfter s k) s ≡ from-column k
@@ -231,7 +241,8 @@ module _ (s : List ℕ) (h : Reading) (r : Reads (drop 4 s) h) where
 
   -- THE LAST PLACE is that of the `;` that ends the columns, and the text
   pub last-stands : drop (placeAfter s (length (h .columns))) s ≡ semicolon ∷ []
-  last-stands = columns-stand (length (h .columns)) (omega arith) ∙ ap (λ (l : List Column). printedColumns l ++ (semicolon ∷ [])) (drop-length (h .columns))
+  last-stands = columns-stand (length (h .columns)) (omega arith)
+      ∙ ap (λ (l : List Column). printedColumns l ++ (semicolon ∷ [])) (drop-length (h .columns))
 
   -- a definition is passed exactly, and is not empty: each place is beyond the one before
   pub place-next : (k : ℕ) → k < length (h .columns) → placeAfter s (suc k) ≡ placeAfter s k + length (printedColumn (columnAt h (suc k)))

@@ -4,7 +4,7 @@ use mathlib.Core.Logic.{by-cases}
 use mathlib.Core.List.{List, [], _∷_}
 use Prim.Native.Nat.{ℕ, suc, _+_, _-_, _*_, _≤_, _<_}
 use native.Mathlib.Omega.{arith}
-use native.Mathlib.Nat.{mul-le-mul}
+use native.Mathlib.Nat.{mul-le-mul, le-refl}
 use native.Mathlib.Numerals.{add-one}
 use native.Mathlib.Decide.{decLt}
 use lib.ListN.{length, getD, take, drop, length-take, List·getD-eq-default}
@@ -12,7 +12,7 @@ use lib.Seq.{drop-cons, take-take, take-all, getD-take, getD-drop}
 use Rattle.number.specs.Bytes.{AreBytes}
 use Rattle.header.specs.Places.{decimal, countOf}
 use Rattle.field.specs.Fields.{widest}
-use Rattle.header.specs.Serving.Stages.{greatestCount, greatestSize}
+use Rattle.header.specs.Serving.Stages.{greatestCount}
 
 -- digits only make a number greater
 decimal-above : (n : ℕ) (l : List ℕ) → n ≤ decimal n l
@@ -44,7 +44,8 @@ module _ (s : List ℕ) (p e : ℕ) where
   decimal-done i n h = let z : e - i ≡ 0 = omega arith in rw z
 
   -- what was read of a number is no greater than five bytes can say
-  pub decimal-bound : (i n : ℕ) → AreBytes s → e ≤ p + 5 → decimal n (take (e - i) (drop i s)) ≡ decimal 0 (take (e - p) (drop p s)) → n ≤ greatestCount
+  pub decimal-bound : (i n : ℕ) → AreBytes s → e ≤ p + 5
+      → decimal n (take (e - i) (drop i s)) ≡ decimal 0 (take (e - p) (drop p s)) → n ≤ greatestCount
   decimal-bound i n b h q =
       omega (
         arith,
@@ -63,5 +64,5 @@ module _ (s : List ℕ) (p e : ℕ) where
   count-long h = let z : p + 5 - p ≡ 5 = omega arith in rw (z, take-take 5 (e - p) (drop p s) (omega arith))
 
 -- a count of elements, none wider than the widest
-pub size-room : (n w : ℕ) → n ≤ greatestCount → w ≤ widest → n * w ≤ greatestSize
-size-room n w a b = mul-le-mul {n₂ = greatestCount} {m₂ = widest} a b
+pub size-room : (n w : ℕ) → w ≤ widest → n * w ≤ n * widest
+size-room n w h = mul-le-mul {n₂ = n} {m₂ = widest} (le-refl n) h

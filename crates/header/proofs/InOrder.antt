@@ -14,14 +14,14 @@ use Rattle.grammar.proofs.FirstBadByte.{first-bad-byte}
 use Rattle.grammar.proofs.GrammarExact.{grammar-exact}
 use Rattle.header.specs.Judge.{textLength, tests, headerRefusal}
 use Rattle.header.specs.Refusals.{SaysLength, textIn, OfLength, OfReading, LeavesGrammar, Test, five-bytes, order-letter, text-fits}
-use Rattle.header.specs.Refusals.{text-limit, in-grammar, columns-sound, at-most-64, names-differ, one-id, rank, Holds, FailsAt}
+use Rattle.header.specs.Refusals.{text-limit, in-grammar, columns-sound, columns-limit, names-differ, one-id, rank, Holds, FailsAt}
 use Rattle.header.specs.Refusals.{RefusedWith}
 use Rattle.header.proofs.TestsInWords.{length-said, one-text, judged-five, judged-letter, judged-fits, judged-limit, judged-grammar}
-use Rattle.header.proofs.TestsInWords.{judged-sound, judged-64, judged-names, judged-id}
+use Rattle.header.proofs.TestsInWords.{judged-sound, judged-columns, judged-names, judged-id}
 
 -- no two tests have one place in the order
 order : List Test
-order = five-bytes ∷ order-letter ∷ text-fits ∷ text-limit ∷ in-grammar ∷ columns-sound ∷ at-most-64 ∷ names-differ ∷ one-id ∷ []
+order = five-bytes ∷ order-letter ∷ text-fits ∷ text-limit ∷ in-grammar ∷ columns-sound ∷ columns-limit ∷ names-differ ∷ one-id ∷ []
 
 at-rank : (x : Test) → getD order (rank x) one-id ≡ x
 unfolding order
@@ -31,7 +31,7 @@ at-rank text-fits = refl
 at-rank text-limit = refl
 at-rank in-grammar = refl
 at-rank columns-sound = refl
-at-rank at-most-64 = refl
+at-rank columns-limit = refl
 at-rank names-differ = refl
 at-rank one-id = refl
 
@@ -45,7 +45,7 @@ rank-below text-fits = omega arith
 rank-below text-limit = omega arith
 rank-below in-grammar = omega arith
 rank-below columns-sound = omega arith
-rank-below at-most-64 = omega arith
+rank-below columns-limit = omega arith
 rank-below names-differ = omega arith
 rank-below one-id = omega arith
 
@@ -65,7 +65,7 @@ module _ (file : List ℕ) where
             (
               (columns-sound, refl, λ e. let r = e in-grammar (omega arith) in judged-sound file (r .0) (r .1)),
               (
-                (at-most-64, refl, λ e. let r = e in-grammar (omega arith) in judged-64 file (r .0) (r .1)),
+                (columns-limit, refl, λ e. let r = e in-grammar (omega arith) in judged-columns file (r .0) (r .1)),
                 (
                   (names-differ, refl, λ e. let r = e in-grammar (omega arith) in judged-names file (r .0) (r .1)),
                   ((one-id, refl, λ e. let r = e names-differ (omega arith) in judged-id file (r .0) (r .1) (r .2)), tt),
@@ -113,19 +113,21 @@ module _ (file : List ℕ) where
       let e = one-length (f .1 .0) (t .textLength) (f .1 .1) (t .says) in
       not-left (textIn file (t .textLength)) p (h .0) (subst (λ (l : ℕ). LeavesGrammar (textIn file l) p) e (f .1 .2)) (t .reads)
   not-both columns-sound n p f h = let w = same-reading _ _ (f .1) h in fails-not-each _ _ p (w .1) (w .2)
-  not-both at-most-64 n p f h = let w = same-reading _ _ (f .2) h in omega (arith, w .1, w .2)
+  not-both columns-limit n p f h = let w = same-reading _ _ (f .2) h in omega (arith, w .1, w .2)
   not-both names-differ n p f h = let w = same-reading _ _ (f .1) h in fails-not-each _ _ p (w .1) (w .2)
   not-both one-id n p f h = let w = same-reading _ _ (f .2) h in w .1 (w .2)
 
   -- nor fail in two ways
-  one-way : (x : Test) (n p m q : ℕ) → ((y : Test) → rank y < rank x → Holds file y) → FailsAt file x n p → FailsAt file x m q → (n ≡ m) × (p ≡ q)
+  one-way : (x : Test) (n p m q : ℕ) → ((y : Test) → rank y < rank x → Holds file y) → FailsAt file x n p
+      → FailsAt file x m q → (n ≡ m) × (p ≡ q)
   one-way five-bytes n p m q e f g = (f .0 ∙ sym (g .0), f .1 ∙ sym (g .1))
   one-way order-letter n p m q e f g = (f .0 ∙ sym (g .0), f .1 ∙ sym (g .1))
   one-way text-fits n p m q e f g = (f .0 ∙ sym (g .0), f .1 ∙ sym (g .1))
   one-way text-limit n p m q e f g = (f .0 ∙ sym (g .0), f .1 ∙ sym (g .1))
-  one-way in-grammar n p m q e f g = let w = same-length _ _ (f .1) (g .1) in (f .0 ∙ sym (g .0), one-leaving (textIn file (w .0)) p q (w .1) (w .2))
+  one-way in-grammar n p m q e f g = let w = same-length _ _ (f .1) (g .1) in
+      (f .0 ∙ sym (g .0), one-leaving (textIn file (w .0)) p q (w .1) (w .2))
   one-way columns-sound n p m q e f g = let w = same-reading _ _ (f .1) (g .1) in (f .0 ∙ sym (g .0), lowest-one _ _ p q (w .1) (w .2))
-  one-way at-most-64 n p m q e f g = (f .0 ∙ sym (g .0), f .1 ∙ sym (g .1))
+  one-way columns-limit n p m q e f g = (f .0 ∙ sym (g .0), f .1 ∙ sym (g .1))
   one-way names-differ n p m q e f g = let w = same-reading _ _ (f .1) (g .1) in (f .0 ∙ sym (g .0), lowest-one _ _ p q (w .1) (w .2))
   one-way one-id n p m q e f g = (f .0 ∙ sym (g .0), f .1 ∙ sym (g .1))
 

@@ -28,7 +28,8 @@ use Rattle.header.specs.declared.ColumnLayout.{ColumnLayout}
 use Rattle.header.specs.declared.Layout.{Layout}
 use Rattle.header.specs.Places.{placeAfter, column}
 use Rattle.header.specs.Names.{sameText}
-use Rattle.header.specs.Judge.{mostColumns, orderOfFile, textLength, headOf, idName, idColumn}
+use Rattle.limits.specs.Limits.{mostColumns}
+use Rattle.header.specs.Judge.{orderOfFile, textLength, headOf, idName, idColumn}
 use Rattle.header.specs.Layouts.{kindOf, varies, fieldSize, someVaries, bytesOfAll, columnLayout, blankColumn, laidOut, rowWidth, layoutOf, blankLayout, headerOf}
 use Rattle.header.specs.Words.{columnAt, OrderIs, Shows, AcceptedHeader}
 use Rattle.header.specs.Refusals.{RefusedWith}
@@ -98,7 +99,8 @@ laid-at s zero r k l = absurd (omega arith)
 laid-at s (suc n) r k l =
     rw (append-assoc (laidOut s n) (columnLayout s (suc n) ∷ []) r)
     (by-cases (decLt k n) (λ c. laid-at s n (columnLayout s (suc n) ∷ r) k c)
-    (λ c. let q : n ≡ k = omega arith in getD-at (laidOut s n) (columnLayout s (suc n)) r blankColumn k (length-laid s n ∙ q) ∙ ap (λ (j : ℕ). columnLayout s (suc j)) q))
+    (λ c. let q : n ≡ k = omega arith in getD-at (laidOut s n) (columnLayout s (suc n)) r blankColumn k
+    (length-laid s n ∙ q) ∙ ap (λ (j : ℕ). columnLayout s (suc j)) q))
 
 -- ---- the layout of an accepted header
 
@@ -131,7 +133,8 @@ module _ (file : List ℕ) (h : Reading) (a : AcceptedHeader file h) where
       }
 
   varies-at : (k : ℕ) → In n k → (varies (column s k) ≡ true) ↔ Varies (columnAt h k)
-  varies-at k i = varies-exactly s (placeAfter s (pred k)) (columnAt h k) (column s k) (shown s h (head-reads file h a) k i) (sound-kind k i) (a .rules .sound k i .listed)
+  varies-at k i = varies-exactly s (placeAfter s (pred k)) (columnAt h k) (column s k)
+      (shown s h (head-reads file h a) k i) (sound-kind k i) (a .rules .sound k i .listed)
 
   -- the layout, with the reading's number of columns
   abbrev counted : Layout
@@ -173,7 +176,8 @@ module _ (file : List ℕ) (h : Reading) (a : AcceptedHeader file h) where
   id-size k i e q =
       let w = shown s h (head-reads file h a) k i in
       let v : Numeral (columnAt h k .count) = one-numeral (columnAt h k .count) q in
-      let fixed : Varies (columnAt h k) → ⊥ = ⊎-elim (λ z. numeral-not-star (subst Numeral z v)) (λ z. let y : _≡_ {A = ℕ} 73 75 = sym e ∙ z in omega arith) in
+      let fixed : Varies (columnAt h k) → ⊥ = ⊎-elim (λ z. numeral-not-star (subst Numeral z v))
+      (λ z. let y : _≡_ {A = ℕ} 73 75 = sym e ∙ z in omega arith) in
       size-fixed s (placeAfter s (pred k)) (columnAt h k) (column s k) w Integer (ap typeOf e ∙ type-of-letter Integer) fixed
       ∙ rw (w .count v, q)
     where
@@ -194,7 +198,7 @@ module _ (file : List ℕ) (h : Reading) (a : AcceptedHeader file h) where
         start = rw (order-of-file file (a .order) (a .letter), L);
         start-inside = omega (arith, a .text-fits);
         columns = refl;
-        at-most-64 = a .rules .at-most-64;
+        columns-limit = a .rules .columns-limit;
         id-within = id-found .0;
         id-named = subst (λ (k : ℕ). sameText (columnAt h k .name) idName ≡ true) (sym (id-found .1)) (o .named);
         id-only = λ k i e. o .only k i e ∙ sym (id-found .1);
@@ -213,7 +217,11 @@ module _ (file : List ℕ) (h : Reading) (a : AcceptedHeader file h) where
       offset-at k i = ap (λ (l : ColumnLayout). l .offset) (at k i) ∙ bytes-are (pred k) (omega (arith, i .1))
 
       id-bytes : 4 ≤ sum (λ k. fieldSize (column s k)) n
-      id-bytes = let o = a .rules .one-id in omega (arith, sum-part (λ k. fieldSize (column s k)) n (o .id) (o .within .0) (o .within .1), id-size (o .id) (o .within) (o .type-I) (o .count-1))
+      id-bytes = let o = a .rules .one-id in omega (
+        arith,
+        sum-part (λ k. fieldSize (column s k)) n (o .id) (o .within .0) (o .within .1),
+        id-size (o .id) (o .within) (o .type-I) (o .count-1),
+      )
 
   -- THE LAYOUT MEANS WHAT THE READING SAYS
   pub laid-out : LaidOut file h (headerOf file .layout)

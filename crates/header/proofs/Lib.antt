@@ -14,5 +14,5 @@ pub mod NameLaws
 pub mod StepLaws
 pub mod JudgeLaws
 pub mod LayoutLaws
+pub mod GatherLaws
 pub mod HeaderLaws
-pub mod Examples

@@ -1,8 +1,8 @@
 -- One turn of the search for a byte, and where the fields of a definition can lie.
-use mathlib.Core.Path.{_≡_, ap, _∙_}
+use mathlib.Core.Path.{_≡_, refl, ap, _∙_}
 use mathlib.Core.Logic.{by-cases}
 use mathlib.Core.List.{List, [], _∷_}
-use Prim.Native.Nat.{ℕ, suc, _+_, _≤_, _<_}
+use Prim.Native.Nat.{ℕ, zero, suc, _+_, _≤_, _<_}
 use native.Mathlib.Omega.{arith}
 use native.Mathlib.Numerals.{add-one}
 use native.Mathlib.Decide.{decLt}
@@ -11,9 +11,9 @@ use lib.Dec.{eqb}
 use lib.ListN.{length, getD, drop, length-drop, drop-of-length-le}
 use lib.Seq.{drop-cons}
 use Rattle.laws.proofs.LowestLaws.{bool-cases}
-use Rattle.grammar.specs.Words.{equals, comma, star}
+use Rattle.grammar.specs.Words.{semicolon, equals, comma, star}
 use Rattle.header.specs.declared.Definition.{Definition}
-use Rattle.header.specs.Places.{before, seek, countOf, span, nameEnd, countEnd, definition, firstPlace, placeAfter, column}
+use Rattle.header.specs.Places.{before, seek, countOf, span, nameEnd, countEnd, thematicIndexEnd, definition, firstPlace, placeAfter, column}
 
 -- the first b stands in the list, or at its end
 before-le : (b : ℕ) (l : List ℕ) → before b l ≤ length l
@@ -35,7 +35,7 @@ module _ (s : List ℕ) (p b : ℕ) where
   unfolding seek
   seek-end h = rw (le-ltb p (length s) h)
 
-  pub seek-le : seek s p b ≤ length s
+  seek-le : seek s p b ≤ length s
   seek-le =
       by-cases (decLt p (length s))
       (λ c. rw (seek-at (omega arith)) (omega (arith, before-le b (drop p s), length-drop p s)))
@@ -45,14 +45,26 @@ pub seek-next : (s : List ℕ) (p b : ℕ) → p < length s → (getD s p 0 ≡ 
 seek-next s p b h e =
     rw (seek-at s p b (omega arith), seek-at s (p + 1) b (omega arith), drop-cons s p 0 h, ne-eqb (getD s p 0) b e, add-one p) (omega arith)
 
--- a name ends in the head, wherever its definition is read
+-- a name ends in the head, wherever its definition is read, and starts there
 pub name-within : (s : List ℕ) (p : ℕ) → definition s p .name .end ≤ length s
 unfolding definition
-name-within s p = seek-le s p 61
+name-within s p = seek-le s p equals
+
+pub name-start : (s : List ℕ) (p : ℕ) → definition s p .name .start ≡ p
+unfolding definition
+name-start s p = refl
+
+-- no place is far past the head's end
+place-near : (s : List ℕ) (k : ℕ) → placeAfter s k ≤ length s + 2
+unfolding placeAfter firstPlace definition
+place-near s zero = let h = seek-le s (seek s (seek s 4 semicolon + 1) semicolon + 1) semicolon in omega arith
+place-near s (suc k) = let h = seek-le s (thematicIndexEnd s (placeAfter s k) + 1) comma in omega arith
 
 -- what the code finds of a definition, one field after the other
-module _ (s : List ℕ) (p a b c d e f : ℕ) (A : a ≡ seek s p equals) (B : b ≡ seek s (a + 3) comma) (C : c ≡ seek s (b + 3) comma) (D : d ≡ seek s (c + 1) comma)
-    (E : e ≡ seek s (d + 1) comma) (F : f ≡ seek s (e + 1) comma) (kind mark count key : ℕ) (K : kind ≡ getD s (a + 1) 0) (M : mark ≡ getD s (a + 3) 0)
+module _ (s : List ℕ) (p a b c d e f : ℕ) (A : a ≡ seek s p equals) (B : b ≡ seek s (a + 3) comma)
+    (C : c ≡ seek s (b + 3) comma) (D : d ≡ seek s (c + 1) comma)
+    (E : e ≡ seek s (d + 1) comma) (F : f ≡ seek s (e + 1) comma) (kind mark count key : ℕ)
+    (K : kind ≡ getD s (a + 1) 0) (M : mark ≡ getD s (a + 3) 0)
     (N : count ≡ countOf s (a + 3) b) (Y : key ≡ getD s (b + 1) 0) where
   pub defined :
       record {
@@ -102,3 +114,7 @@ module _ (s : List ℕ) (k at : ℕ) (d : Definition) (e : at ≡ placeAfter s k
   pub at-next : d .after ≡ placeAfter s (k + 1)
   unfolding placeAfter
   at-next = rw add-one (ap (λ (x : Definition). x .after) is-column)
+
+  -- its name starts and ends near the head's end at most
+  pub name-near : (d .name .start ≤ length s + 2) × (d .name .end ≤ length s)
+  name-near = rw (q, name-start s at, e) (place-near s k, name-within s (placeAfter s k))

@@ -19,23 +19,27 @@ use Rattle.header.specs.Serving.Stages.{stepIn}
 abbrev pub standsAt : List ℕ → ℕ → ℕ → Bool
 standsAt s place k = eqb (placeAfter s (pred k)) place
 
-module _ (s : List ℕ) (place k at : ℕ) (h : None (standsAt s place) k) (e : at ≡ placeAfter s k) where
-  pub not-here : (place ≡ at → ⊥) → None (standsAt s place) (k + 1)
-  not-here n = none-next (standsAt s place) k h (ne-eqb (placeAfter s k) place (λ q. n (sym q ∙ sym e)))
+-- `at` is where column k + 1 starts, the k before it start elsewhere
+module _ (s : List ℕ) (place k : ℕ) (h : None (standsAt s place) k) where
+  module _ (at : ℕ) (e : at ≡ placeAfter s k) where
+    pub not-here : (place ≡ at → ⊥) → None (standsAt s place) (k + 1)
+    not-here n = none-next (standsAt s place) k h (ne-eqb (placeAfter s k) place (λ q. n (sym q ∙ sym e)))
 
-  pub step-column : (n : ℕ) (d : Definition) → k < n → place ≡ at → d ≡ definition s at → Column d ≡ stepIn s n place
-  unfolding stepIn
-  step-column n d l p q =
-      let t : standsAt s place (suc k) ≡ true = eq-eqb (placeAfter s k) place (sym e ∙ sym p) in
-      rw (lowest-found (standsAt s place) n k l h t, q, p)
+    pub step-column : (n : ℕ) (d : Definition) → k < n → place ≡ at → d ≡ definition s place → Column d ≡ stepIn s n place
+    unfolding stepIn
+    step-column n d l p q =
+        let t : standsAt s place (suc k) ≡ true = eq-eqb (placeAfter s k) place (sym e ∙ sym p) in
+        rw (lowest-found (standsAt s place) n k l h t, q)
 
-  nothing : (n : ℕ) → n ≤ k → k ≤ n → (lowest (standsAt s place) n ≡ 0) × (placeAfter s n ≡ at)
-  nothing n a b = let q : n ≡ k = omega arith in (rw q (lowest-nothing (standsAt s place) k h), rw q (sym e))
+  -- after the last
+  module _ (n after : ℕ) (a : n ≤ k) (b : k ≤ n) (e : after ≡ placeAfter s n) where
+    nothing : lowest (standsAt s place) n ≡ 0
+    nothing = let q : n ≡ k = omega arith in rw q (lowest-nothing (standsAt s place) k h)
 
-  pub step-done : (n : ℕ) → n ≤ k → k ≤ n → place ≡ at → Done ≡ stepIn s n place
-  unfolding stepIn
-  step-done n a b p = rw (nothing n a b .0, nothing n a b .1, eq-eqb place at p)
+    pub step-done : place ≡ after → Done ≡ stepIn s n place
+    unfolding stepIn
+    step-done p = rw (nothing, ← e, eq-eqb place after p)
 
-  pub step-none : (n : ℕ) (r : Refusal) → n ≤ k → k ≤ n → (place ≡ at → ⊥) → r ≡ refusal 13 place → Refused r ≡ stepIn s n place
-  unfolding stepIn
-  step-none n r a b p q = rw (nothing n a b .0, nothing n a b .1, ne-eqb place at p, q)
+    pub step-none : (r : Refusal) → (place ≡ after → ⊥) → r ≡ refusal 13 place → Refused r ≡ stepIn s n place
+    unfolding stepIn
+    step-none r p q = rw (nothing, ← e, ne-eqb place after p, q)

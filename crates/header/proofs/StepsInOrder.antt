@@ -48,7 +48,8 @@ part-of-head m s x h =
     let i : x .end - x .start ≤ m - x .start = omega (arith, length-take m s) in
     ap (take (x .end - x .start)) (drop-take (x .start) m s) ∙ take-take (x .end - x .start) (m - x .start) (drop (x .start) s) i
 
-shows-in-file : (m : ℕ) (s : List ℕ) (p : ℕ) (c : words.Column) → Shows (take m s) p c (definition (take m s) p) → Shows s p c (definition (take m s) p)
+shows-in-file : (m : ℕ) (s : List ℕ) (p : ℕ) (c : words.Column) → Shows (take m s) p c (definition (take m s) p)
+    → Shows s p c (definition (take m s) p)
 unfolding definition
 shows-in-file m s p c w =
     let t = take m s in
@@ -128,7 +129,8 @@ module _ (file : List ℕ) (h : Reading) (a : AcceptedHeader file h) where
   column-step k l =
       accepted-step (placeAfter head k)
       ∙ found (placeAfter head k) (startsAt head columns (placeAfter head k))
-      (lowest-some (λ j. eqb (placeAfter head (pred j)) (placeAfter head k)) columns (suc k) (omega arith) l (eq-eqb (placeAfter head k) (placeAfter head k) refl))
+      (lowest-some (λ j. eqb (placeAfter head (pred j)) (placeAfter head k)) columns (suc k) (omega arith) l
+      (eq-eqb (placeAfter head k) (placeAfter head k) refl))
 
   pub step-shows : (k : ℕ) → k < columns → Shows file (placeAfter head k) (columnAt h (suc k)) (column head (suc k))
   unfolding headOf
@@ -163,12 +165,14 @@ module _ (file : List ℕ) (h : Reading) (a : AcceptedHeader file h) where
 
   -- THE COLUMNS OF THE READING IN ORDER: the step after k others gives a definition that shows column k + 1
   pub steps-give-columns : (k : ℕ) → k < columns
-      → (d : Definition) × (stepOf file (stepped file k (startOf file)) ≡ Column d) × Shows file (stepped file k (startOf file)) (columnAt h (suc k)) d
+      → (d : Definition) × (stepOf file (stepped file k (startOf file)) ≡ Column d)
+      × Shows file (stepped file k (startOf file)) (columnAt h (suc k)) d
   steps-give-columns k l =
       rw (place-after-steps k (omega arith)) (column head (suc k), column-step k l, step-shows k l)
 
   -- moving past exactly one printed definition
-  pub steps-move-past : (k : ℕ) → k < columns → stepped file (suc k) (startOf file) ≡ stepped file k (startOf file) + length (printedColumn (columnAt h (suc k)))
+  pub steps-move-past : (k : ℕ) → k < columns
+      → stepped file (suc k) (startOf file) ≡ stepped file k (startOf file) + length (printedColumn (columnAt h (suc k)))
   steps-move-past k l =
       let e = place-after-steps k (omega arith) in
       place-after-steps (suc k) l ∙ place-next head h head-reads k l ∙ ap (λ (p : ℕ). p + length (printedColumn (columnAt h (suc k)))) (sym e)

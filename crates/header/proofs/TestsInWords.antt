@@ -28,11 +28,12 @@ use Rattle.grammar.proofs.FirstBadByte.{first-bad-byte}
 use Rattle.grammar.proofs.OneReading.{reads-once}
 use Rattle.header.specs.Places.{column}
 use Rattle.header.specs.Names.{namedBefore}
-use Rattle.header.specs.Judge.{mostText, mostColumns, orderByte, listed, orderOfFile, textLength, headOf, textOf, grammarRefusal}
+use Rattle.limits.specs.Limits.{mostText, mostColumns}
+use Rattle.header.specs.Judge.{orderByte, listed, orderOfFile, textLength, headOf, textOf, grammarRefusal}
 use Rattle.header.specs.Judge.{columnCount, sound, columnRefusal, idWrong}
 use Rattle.header.specs.Words.{columnAt, OrderIs, by-L, by-M, by-none, ColumnSound, OneId}
 use Rattle.header.specs.Refusals.{SaysLength, textIn, TextReads, OfLength, OfReading, LeavesGrammar, NotNamedBefore, NamesDiffer}
-use Rattle.header.specs.Refusals.{five-bytes, order-letter, text-fits, text-limit, in-grammar, columns-sound, at-most-64, names-differ}
+use Rattle.header.specs.Refusals.{five-bytes, order-letter, text-fits, text-limit, in-grammar, columns-sound, columns-limit, names-differ}
 use Rattle.header.specs.Refusals.{one-id, Holds, FailsAt}
 use Rattle.header.proofs.ColumnsJudged.{sound-at, named-exactly, id-exactly}
 
@@ -99,7 +100,8 @@ module _ (file : List ℕ) where
   -- ---- 1, 2, 1, 15
 
   pub judged-five : Judged (refusedIf (ltb (length file) 5) 1 (length file)) (Holds file five-bytes) (FailsAt file five-bytes)
-  judged-five = judged-once (ltb (length file) 5) 1 (length file) (5 ≤ length file) (length file < 5) (λ e. omega arith) (ltb-false (length file) 5) (ltb-true (length file) 5)
+  judged-five = judged-once (ltb (length file) 5) 1 (length file) (5 ≤ length file) (length file < 5) (λ e. omega arith)
+      (ltb-false (length file) 5) (ltb-true (length file) 5)
 
   pub judged-letter : Judged (refusedIf (not (listed (orderOf (orderByte file)))) 2 4) (Holds file order-letter) (FailsAt file order-letter)
   judged-letter =
@@ -110,9 +112,11 @@ module _ (file : List ℕ) where
     of-length : (P : ℕ → Type 0) → P (textLength file) → OfLength file P
     of-length P h = (textLength file, says-length w, h)
 
-    pub judged-fits : Judged (refusedIf (ltb (length file) (textLength file + 4)) 1 (length file)) (Holds file text-fits) (FailsAt file text-fits)
+    pub judged-fits : Judged (refusedIf (ltb (length file) (textLength file + 4)) 1 (length file))
+        (Holds file text-fits) (FailsAt file text-fits)
     judged-fits =
-        judged-once (ltb (length file) (textLength file + 4)) 1 (length file) (Holds file text-fits) (OfLength file (λ l. length file < l + 4)) (λ e. omega arith)
+        judged-once (ltb (length file) (textLength file + 4)) 1 (length file) (Holds file text-fits)
+        (OfLength file (λ l. length file < l + 4)) (λ e. omega arith)
         (λ e. of-length (λ l. l + 4 ≤ length file) (ltb-false (length file) (textLength file + 4) e))
         (λ e. of-length (λ l. length file < l + 4) (ltb-true (length file) (textLength file + 4) e))
 
@@ -132,7 +136,8 @@ module _ (file : List ℕ) where
           (
             refl,
             of-length (λ l. LeavesGrammar (textIn file l) (i + 4))
-                (subst (λ (s : List ℕ). LeavesGrammar s (i + 4)) text-is (record { byte = i; place = refl; leaves = first-bad-byte (textOf file) i .0 e })),
+                (subst (λ (s : List ℕ). LeavesGrammar s (i + 4)) text-is
+                (record { byte = i; place = refl; leaves = first-bad-byte (textOf file) i .0 e })),
           ),
         )
 
@@ -148,11 +153,13 @@ module _ (file : List ℕ) where
     of-reading : (P : Reading → Type 0) → P h → OfReading file P
     of-reading P x = (h, t, x)
 
-    judged-column : (k : ℕ) → In n k → Judged (columnRefusal (headOf file) k) (ColumnSound (columnAt h k)) (λ m p. (p ≡ k) × (m ≡ 4) × (ColumnSound (columnAt h k) → ⊥))
+    judged-column : (k : ℕ) → In n k → Judged (columnRefusal (headOf file) k) (ColumnSound (columnAt h k))
+        (λ m p. (p ≡ k) × (m ≡ 4) × (ColumnSound (columnAt h k) → ⊥))
     judged-column k i =
         let x = denied _ (sound-at (headOf file) h (reads-text h t) k i) in
         ⊎-elim inl (λ f. inr (f .0, (f .1 .1, f .1 .0, f .1 .2)))
-        (judged-once (not (sound (column (headOf file) k))) 4 k (ColumnSound (columnAt h k)) (ColumnSound (columnAt h k) → ⊥) (λ e. omega arith) (x .0) (λ e c. true≢false (sym e ∙ x .1 c)))
+        (judged-once (not (sound (column (headOf file) k))) 4 k (ColumnSound (columnAt h k))
+        (ColumnSound (columnAt h k) → ⊥) (λ e. omega arith) (x .0) (λ e c. true≢false (sym e ∙ x .1 c)))
 
     pub judged-sound : Judged (lowestOf (columnRefusal (headOf file)) (columnCount file)) (Holds file columns-sound) (FailsAt file columns-sound)
     judged-sound =
@@ -160,13 +167,16 @@ module _ (file : List ℕ) where
         (⊎-elim (λ f. inl (f .0, of-reading _ (f .1))) (λ f. inr (f .0, (f .1 .0, of-reading _ (f .1 .1))))
         (judged-lowest-of (λ k. ColumnSound (columnAt h k)) n (λ k m. m ≡ 4) (columnRefusal (headOf file)) judged-column))
 
-    pub judged-64 : Judged (refusedIf (ltb mostColumns (columnCount file)) 5 (mostColumns + 1)) (Holds file at-most-64) (FailsAt file at-most-64)
-    judged-64 =
+    pub judged-columns : Judged (refusedIf (ltb mostColumns (columnCount file)) 5 (mostColumns + 1))
+        (Holds file columns-limit) (FailsAt file columns-limit)
+    judged-columns =
         rw (column-count h t)
-        (judged-once (ltb mostColumns n) 5 65 (Holds file at-most-64) (OfReading file (λ h. mostColumns < length (h .columns))) (λ e. omega arith)
+        (judged-once (ltb mostColumns n) 5 (mostColumns + 1) (Holds file columns-limit)
+        (OfReading file (λ h. mostColumns < length (h .columns))) (λ e. omega arith)
         (λ e. of-reading _ (ltb-false mostColumns n e)) (λ e. of-reading _ (ltb-true mostColumns n e)))
 
-    pub judged-names : Judged (located 5 (lowest (namedBefore (headOf file)) (columnCount file))) (Holds file names-differ) (FailsAt file names-differ)
+    pub judged-names : Judged (located 5 (lowest (namedBefore (headOf file)) (columnCount file)))
+        (Holds file names-differ) (FailsAt file names-differ)
     judged-names =
         rw (column-count h t)
         (⊎-elim (λ f. inl (f .0, of-reading _ (f .1))) (λ f. inr (f .0, (f .1 .0, of-reading _ (f .1 .1))))

@@ -1,6 +1,6 @@
 -- "if K occurs": a column of the layout that a file's header gives is of type K EXACTLY WHEN its header is accepted and a column of its
 -- reading has the type letter K.
-use mathlib.Core.Path.{_≡_, refl, sym, ap, _∙_}
+use mathlib.Core.Path.{_≡_, sym, _∙_}
 use mathlib.Core.Logic.{_↔_}
 use mathlib.Core.Bool.{Bool, true}
 use mathlib.Core.List.{List}
@@ -8,7 +8,6 @@ use Prim.Native.Nat.{ℕ, min, _<_}
 use native.Mathlib.Omega.{arith}
 use borrow.Author.Tests.{eq-eqb, ne-eqb, eqb-true, eqb-false}
 use lib.Dec.{eqb}
-use lib.ListN.{length}
 use Rattle.laws.specs.Lowest.{lowest, In}
 use Rattle.laws.proofs.LowestLaws.{bool-cases, lowest-pos, lowest-some}
 use Rattle.grammar.specs.Words.{Reading}
@@ -16,7 +15,8 @@ use Rattle.field.specs.Letters.{letterK}
 use Rattle.field.specs.Fields.{letterOf, isTriplet}
 use Rattle.field.proofs.TableRule.{letter-of-type}
 use Rattle.header.specs.declared.Layout.{Layout}
-use Rattle.header.specs.Judge.{mostColumns, headerRefusal}
+use Rattle.limits.specs.Limits.{mostColumns}
+use Rattle.header.specs.Judge.{headerRefusal}
 use Rattle.header.specs.Layouts.{headerOf}
 use Rattle.header.specs.Words.{columnAt, AcceptedHeader}
 use Rattle.header.specs.LayoutWords.{layoutAt, ShowsK}
@@ -72,5 +72,5 @@ module _ (file : List ℕ) where
     λ w.
         let x = triplet-exactly .1 w in
         lowest-some isK (min (l .columns) mostColumns) (x .0) (x .1 .0)
-        (omega (arith, x .1 .1, laid-out file (w .reading) (w .accepted) .at-most-64)) (x .2),
+        (omega (arith, x .1 .1, laid-out file (w .reading) (w .accepted) .columns-limit)) (x .2),
   )

@@ -5,10 +5,12 @@ use Prim.Native.Nat.{ℕ, _+_}
 use lib.Dec.{eqb, ltb}
 use lib.ListN.{length, getD, take, drop}
 use Rattle.laws.specs.Lowest.{lowest}
+use Rattle.laws.specs.Texts.{bytes}
 use Rattle.refusal.specs.declared.Refusal.{Refusal}
 use Rattle.refusal.specs.Order.{refusal, fine, refusedIf, located, lowestOf, firstOf}
+use Rattle.limits.specs.Limits.{mostText, mostColumns}
 use Rattle.number.specs.declared.Order.{Order}
-use Rattle.number.specs.declared.Order.the-variants.{Least, Most}
+use Rattle.number.specs.declared.Order.the-variants.{Least}
 use Rattle.number.specs.declared.OrderLetter.{OrderLetter}
 use Rattle.number.specs.declared.OrderLetter.the-variants.{Is, Unlisted}
 use Rattle.number.specs.Bytes.{orderOf, number}
@@ -22,13 +24,6 @@ use Rattle.header.specs.declared.Answer.{Answer}
 use Rattle.header.specs.declared.Answer.the-variants.{Accepted, Refused}
 use Rattle.header.specs.Places.{column}
 use Rattle.header.specs.Names.{namedBefore, columnNamed}
-
--- "15: L over 32,767"; "more than 64 columns"
-abbrev pub mostText : ℕ
-mostText = 32767
-
-abbrev pub mostColumns : ℕ
-mostColumns = 64
 
 -- "Byte 4 ... governs every number in the file, L included."
 abbrev pub orderByte : List ℕ → ℕ
@@ -88,7 +83,7 @@ columnRefusal s k = refusedIf (not (sound (column s k))) 4 k
 
 -- "Exactly one column is named `id` (letters of either case), with type I, count 1, key P; no other column has key P."
 abbrev pub idName : List ℕ
-idName = 105 ∷ 100 ∷ []
+idName = bytes "id"
 
 abbrev pub idSound : Definition → Bool
 idSound d = eqb (d .kind) 73 && (not (d .star) && (eqb (d .count) 1 && eqb (d .key) keyP))

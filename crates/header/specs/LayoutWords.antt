@@ -16,7 +16,8 @@ use Rattle.header.specs.declared.ColumnLayout.{ColumnLayout}
 use Rattle.header.specs.declared.Layout.{Layout}
 use Rattle.header.specs.Places.{decimal}
 use Rattle.header.specs.Names.{sameText}
-use Rattle.header.specs.Judge.{mostColumns, idName}
+use Rattle.limits.specs.Limits.{mostColumns}
+use Rattle.header.specs.Judge.{idName}
 use Rattle.header.specs.Layouts.{blankColumn}
 use Rattle.header.specs.Words.{columnAt, OrderIs, AcceptedHeader}
 
@@ -43,7 +44,7 @@ pub record LaidOut (file : List ℕ) (h : Reading) (l : Layout) : Type 0 where
   pub start : l .start ≡ number (l .order) file 0 4 + 4
   pub start-inside : l .start ≤ length file
   pub columns : l .columns ≡ length (h .columns)
-  pub at-most-64 : l .columns ≤ mostColumns
+  pub columns-limit : l .columns ≤ mostColumns
   -- the one column named `id`
   pub id-within : In (l .columns) (l .id)
   pub id-named : sameText (columnAt h (l .id) .name) idName ≡ true

@@ -15,7 +15,9 @@ use Rattle.header.specs.declared.ColumnLayout.{ColumnLayout}
 use Rattle.header.specs.declared.Layout.{Layout}
 use Rattle.header.specs.declared.Header.{Header}
 use Rattle.header.specs.Places.{column}
-use Rattle.header.specs.Judge.{mostColumns, orderOfFile, textLength, headOf, columnCount, idColumn, headerRefusal, answered}
+use Rattle.header.specs.Names.{namesOf, noNames}
+use Rattle.limits.specs.Limits.{mostColumns}
+use Rattle.header.specs.Judge.{orderOfFile, textLength, headOf, columnCount, idColumn, headerRefusal, answered}
 
 -- the type of a listed letter; text for the others, which no accepted header has
 abbrev pub kindOf : look.Lookup → FieldType
@@ -77,6 +79,11 @@ layoutOf file =
 abbrev pub blankLayout : Layout
 blankLayout = record { order = Least; start = 0; columns = 0; id = 0; width = 0; cols = replicate mostColumns blankColumn }
 
--- THE HEADER: the answer, and on acceptance its layout
+-- THE HEADER: the answer, and on acceptance its layout and where its names lie
 unfoldable pub headerOf : List ℕ → Header
-headerOf file = record { answer = answered (headerRefusal file); layout = cond (eqb (headerRefusal file .number) 0) (layoutOf file) blankLayout }
+headerOf file =
+    record {
+      answer = answered (headerRefusal file);
+      layout = cond (eqb (headerRefusal file .number) 0) (layoutOf file) blankLayout;
+      names = cond (eqb (headerRefusal file .number) 0) (namesOf (headOf file) (columnCount file)) noNames;
+    }

@@ -1,6 +1,6 @@
 -- Where things lie in a header. `s` is the head of the file: the four bytes of L and the text. In a text of the grammar a field
 -- ends at the next byte that separates, so places are found by seeking that byte.
-use mathlib.Core.Bool.{Bool, cond}
+use mathlib.Core.Bool.{cond}
 use mathlib.Core.List.{List, [], _∷_}
 use Prim.Native.Nat.{ℕ, zero, suc, pred, _+_, _-_, _*_}
 use lib.Dec.{eqb, ltb}

@@ -11,7 +11,7 @@ use Rattle.number.specs.declared.Order.{Order}
 use Rattle.number.specs.Bytes.{number}
 use Rattle.grammar.specs.Words.{Reading, Reads, FirstBad, EndsTooSoon}
 use Rattle.header.specs.Names.{sameText}
-use Rattle.header.specs.Judge.{mostText, mostColumns}
+use Rattle.limits.specs.Limits.{mostText, mostColumns}
 use Rattle.header.specs.Words.{columnAt, OrderIs, ColumnSound, OneId}
 
 -- "Four bytes L .. Byte 4 .. governs every number in the file, L included": in the order that byte 4 gives, L is l
@@ -61,7 +61,7 @@ pub data Test : Type 0 where
   text-limit : Test
   in-grammar : Test
   columns-sound : Test
-  at-most-64 : Test
+  columns-limit : Test
   names-differ : Test
   one-id : Test
 
@@ -73,7 +73,7 @@ rank text-fits = 2
 rank text-limit = 3
 rank in-grammar = 4
 rank columns-sound = 5
-rank at-most-64 = 6
+rank columns-limit = 6
 rank names-differ = 7
 rank one-id = 8
 
@@ -85,7 +85,7 @@ Holds file text-fits = OfLength file (λ l. l + 4 ≤ length file)
 Holds file text-limit = OfLength file (λ l. l ≤ mostText)
 Holds file in-grammar = (h : Reading) × TextReads file h
 Holds file columns-sound = OfReading file AllSound
-Holds file at-most-64 = OfReading file (λ h. length (h .columns) ≤ mostColumns)
+Holds file columns-limit = OfReading file (λ h. length (h .columns) ≤ mostColumns)
 Holds file names-differ = OfReading file NamesDiffer
 Holds file one-id = OfReading file OneId
 
@@ -97,7 +97,7 @@ FailsAt file text-fits n p = (n ≡ 1) × (p ≡ length file) × OfLength file (
 FailsAt file text-limit n p = (n ≡ 15) × (p ≡ 0) × OfLength file (λ l. mostText < l)
 FailsAt file in-grammar n p = (n ≡ 3) × OfLength file (λ l. LeavesGrammar (textIn file l) p)
 FailsAt file columns-sound n p = (n ≡ 4) × OfReading file (λ h. LowestFailing (length (h .columns)) (λ k. ColumnSound (columnAt h k)) p)
-FailsAt file at-most-64 n p = (n ≡ 5) × (p ≡ 65) × OfReading file (λ h. mostColumns < length (h .columns))
+FailsAt file columns-limit n p = (n ≡ 5) × (p ≡ mostColumns + 1) × OfReading file (λ h. mostColumns < length (h .columns))
 FailsAt file names-differ n p = (n ≡ 5) × OfReading file (λ h. LowestFailing (length (h .columns)) (NotNamedBefore h) p)
 FailsAt file one-id n p = (n ≡ 6) × (p ≡ 0) × OfReading file (λ h. OneId h → ⊥)
 

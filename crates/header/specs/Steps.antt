@@ -1,13 +1,11 @@
 -- "gives one column at each step, moving past exactly one definition. A header refusal comes first. After the last it says so and
 -- stays; a place where the header's reading starts no definition gives 13, that place, and stays."
-use mathlib.Core.Bool.{Bool, cond}
+use mathlib.Core.Bool.{cond}
 use mathlib.Core.List.{List}
 use Prim.Native.Nat.{ℕ, zero, suc, pred}
 use lib.Dec.{eqb}
 use Rattle.laws.specs.Lowest.{lowest}
-use Rattle.refusal.specs.declared.Refusal.{Refusal}
 use Rattle.refusal.specs.Order.{refusal}
-use Rattle.header.specs.declared.Definition.{Definition}
 use Rattle.header.specs.declared.Step.{Step}
 use Rattle.header.specs.declared.Step.the-variants.{Column, Done, Refused}
 use Rattle.header.specs.Places.{definition, firstPlace, placeAfter}

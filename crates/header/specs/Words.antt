@@ -17,7 +17,8 @@ use Rattle.field.specs.Fields.{typeOf, countRight}
 use Rattle.header.specs.declared.Definition.{Definition}
 use Rattle.header.specs.Places.{decimal, part}
 use Rattle.header.specs.Names.{sameText}
-use Rattle.header.specs.Judge.{mostText, mostColumns, idName, keyP}
+use Rattle.limits.specs.Limits.{mostText, mostColumns}
+use Rattle.header.specs.Judge.{idName, keyP}
 
 -- column k of a reading, from 1
 abbrev pub noColumn : words.Column
@@ -53,7 +54,7 @@ pub record OneId (h : words.Reading) : Type 0 where
 -- the column rules, and the limit of 64
 pub record ColumnRules (h : words.Reading) : Type 0 where
   pub sound : (k : ℕ) → In (length (h .columns)) k → ColumnSound (columnAt h k)
-  pub at-most-64 : length (h .columns) ≤ mostColumns
+  pub columns-limit : length (h .columns) ≤ mostColumns
   pub names-differ : (i j : ℕ) → In (length (h .columns)) j → 0 < i → i < j → sameText (columnAt h i .name) (columnAt h j .name) ≡ true → ⊥
   pub one-id : OneId h
 

@@ -3,48 +3,21 @@
 // the case names, and where a column name that it gives is found. A case is a field of four fields: the label, the table file,
 // the place (8 bytes) and the name.
 ghost use Prim.Native.Nat.{_≤_};
+use casefile::say;
+use casefile::say_number;
+use casefile::say_part;
+use casefile::say_refusal;
 use header::Answer;
 use header::ColumnLayout;
 use header::Definition;
 use header::Layout;
-use header::MOST_COLUMNS;
-use header::Span;
 use header::Step;
-use libc::STDOUT_FILENO;
+use limits::MOST_COLUMNS;
 use number::Order;
-use refusal::Refusal;
-
-fn say(text: &[u8]) {
-    io::write_all(STDOUT_FILENO, text);
-}
-
-fn say_number(n: u64) {
-    io::print_decimal(STDOUT_FILENO, n);
-}
-
-fn say_refusal(bad: Refusal) {
-    say(b"refused ");
-    say_number(bad.number as u64);
-    say(b" at ");
-    say_number(bad.place as u64);
-}
 
 fn say_letter(b: u8) {
     let text = [b; 1];
     say(&text);
-}
-
-// A part of the file, or nothing where it does not lie inside.
-fn say_span(file: &[u8], part: Span) {
-    let start = part.start;
-    let end = part.end;
-    if file.len() < end {
-        return;
-    }
-    if end < start {
-        return;
-    }
-    say(&file[start..end]);
 }
 
 fn say_count(star: bool, count: u32) {
@@ -57,7 +30,7 @@ fn say_count(star: bool, count: u32) {
 
 // A definition as the text has it, and the place after it.
 fn say_definition(file: &[u8], d: Definition) {
-    say_span(file, d.name);
+    say_part(file, d.name.start, d.name.end);
     say(b"=");
     say_letter(d.kind);
     say(b",");
@@ -65,13 +38,13 @@ fn say_definition(file: &[u8], d: Definition) {
     say(b",");
     say_letter(d.key);
     say(b",");
-    say_span(file, d.description);
+    say_part(file, d.description.start, d.description.end);
     say(b",");
-    say_span(file, d.value);
+    say_part(file, d.value.start, d.value.end);
     say(b",");
-    say_span(file, d.thematic);
+    say_part(file, d.thematic.start, d.thematic.end);
     say(b",");
-    say_span(file, d.narrative);
+    say_part(file, d.narrative.start, d.narrative.end);
     say(b", after ");
     say_number(d.after as u64);
 }

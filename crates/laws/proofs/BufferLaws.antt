@@ -53,7 +53,8 @@ pub front-high : (g : ℕ → ℕ) (n : ℕ) (d : List ℕ) (i : ℕ) → n ≤ 
 front-high g n d i h =
     let q : i ≡ n + (i - n) = omega arith in
     let t : i ≡ length (listed g n) + (i - n) = omega (arith, length-listed g n) in
-    ap (λ (k : ℕ). getD (front g n d) k 0) t ∙ getD-append-add (listed g n) (drop n d) (i - n) 0 ∙ getD-drop n d (i - n) 0 ∙ ap (λ (k : ℕ). getD d k 0) (sym q)
+    ap (λ (k : ℕ). getD (front g n d) k 0) t ∙ getD-append-add (listed g n) (drop n d) (i - n) 0
+    ∙ getD-drop n d (i - n) 0 ∙ ap (λ (k : ℕ). getD d k 0) (sym q)
 
 -- a buffer as long as d, g below n and as d from there on
 pub front-of : (g : ℕ → ℕ) (n : ℕ) (d e : List ℕ) → n ≤ length d → length e ≡ length d

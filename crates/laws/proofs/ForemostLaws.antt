@@ -84,7 +84,8 @@ module _ {A : Type 0} {before : A → A → Bool} {g : ℕ → A} {n : ℕ} wher
       ∙ rw (h .attained, ← i .attained) (h .none-before (i .place) (i .pos) (i .within)))
 
   pub one-place : {r q : A} (h : Earliest before g n r) (i : Earliest before g n q) → h .place ≡ i .place
-  one-place h i = by-cases (decLt (h .place) (i .place)) (λ l. absurd (not-later h i l)) (λ l. by-cases (decLt (i .place) (h .place)) (λ m. absurd (not-later i h m)) (λ m. omega arith))
+  one-place h i = by-cases (decLt (h .place) (i .place)) (λ l. absurd (not-later h i l))
+      (λ l. by-cases (decLt (i .place) (h .place)) (λ m. absurd (not-later i h m)) (λ m. omega arith))
 
   pub one-earliest : {r q : A} → Earliest before g n r → Earliest before g n q → r ≡ q
   one-earliest h i = sym (h .attained) ∙ ap g (one-place h i) ∙ i .attained

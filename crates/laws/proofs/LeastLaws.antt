@@ -20,7 +20,8 @@ lesser-left a b z = rw (eq-eqb a 0 z)
 
 pub lesser-right : (a b : ℕ) → b ≡ 0 → lesser a b ≡ a
 unfolding lesser
-lesser-right a b z = by-cases (decLe a 0) (λ c. rw (eq-eqb a 0 (omega arith)) (omega arith)) (λ c. rw (ne-eqb a 0 (λ e. omega arith), eq-eqb b 0 z))
+lesser-right a b z = by-cases (decLe a 0) (λ c. rw (eq-eqb a 0 (omega arith)) (omega arith))
+    (λ c. rw (ne-eqb a 0 (λ e. omega arith), eq-eqb b 0 z))
 
 pub lesser-less : (a b : ℕ) → 0 < a → a < b → lesser a b ≡ a
 unfolding lesser
@@ -76,7 +77,8 @@ module _ (p q : ℕ → Bool) (n : ℕ) where
 -- ---- the least of the rows that pass
 module _ (p : ℕ → Bool) (g : ℕ → ℕ) where
   -- one row more, which passes, as v is the least so far; or which does not
-  row-passes : (n v : ℕ) → p (suc n) ≡ true → 0 < g (suc n) → ((v ≡ 0) × None p n) ⊎ ((0 < v) × LeastAt p g n v) → LeastAt p g (suc n) (lesser v (g (suc n)))
+  row-passes : (n v : ℕ) → p (suc n) ≡ true → 0 < g (suc n) → ((v ≡ 0) × None p n) ⊎ ((0 < v) × LeastAt p g n v)
+      → LeastAt p g (suc n) (lesser v (g (suc n)))
   row-passes n v e h (inl c) =
       rw (lesser-left v (g (suc n)) (c .0))
       (record {
@@ -85,7 +87,8 @@ module _ (p : ℕ → Bool) (g : ℕ → ℕ) where
         within = le-refl (suc n);
         passes = e;
         has = refl;
-        below = λ k u w t. by-cases (decLe k n) (λ d. absurd (true≢false (sym t ∙ c .1 .fails k u d))) (λ d. let q : k ≡ suc n = omega arith in rw q (le-refl (g (suc n))));
+        below = λ k u w t. by-cases (decLe k n) (λ d. absurd (true≢false (sym t ∙ c .1 .fails k u d)))
+            (λ d. let q : k ≡ suc n = omega arith in rw q (le-refl (g (suc n))));
       })
   row-passes n v e h (inr c) =
       by-cases (decLt v (g (suc n)))
@@ -107,11 +110,19 @@ module _ (p : ℕ → Bool) (g : ℕ → ℕ) where
         within = le-refl (suc n);
         passes = e;
         has = refl;
-        below = λ k u w t. by-cases (decLe k n) (λ d. omega (arith, c .1 .below k u d t)) (λ d. let q : k ≡ suc n = omega arith in rw q (le-refl (g (suc n))));
+        below = λ k u w t. by-cases (decLe k n) (λ d. omega (arith, c .1 .below k u d t))
+            (λ d. let q : k ≡ suc n = omega arith in rw q (le-refl (g (suc n))));
       }))
 
-  row-fails : (n v : ℕ) → p (suc n) ≡ false → ((v ≡ 0) × None p n) ⊎ ((0 < v) × LeastAt p g n v) → ((v ≡ 0) × None p (suc n)) ⊎ ((0 < v) × LeastAt p g (suc n) v)
-  row-fails n v e (inl c) = inl (c .0, record { fails = λ k u w. by-cases (decLe k n) (λ d. c .1 .fails k u d) (λ d. let q : k ≡ suc n = omega arith in rw q e) })
+  row-fails : (n v : ℕ) → p (suc n) ≡ false → ((v ≡ 0) × None p n) ⊎ ((0 < v) × LeastAt p g n v)
+      → ((v ≡ 0) × None p (suc n)) ⊎ ((0 < v) × LeastAt p g (suc n) v)
+  row-fails n v e (inl c) = inl (
+    c .0,
+    record {
+      fails = λ k u w.
+          by-cases (decLe k n) (λ d. c .1 .fails k u d) (λ d. let q : k ≡ suc n = omega arith in rw q e);
+    },
+  )
   row-fails n v e (inr c) =
       inr (
         c .0,
@@ -121,11 +132,13 @@ module _ (p : ℕ → Bool) (g : ℕ → ℕ) where
           within = omega (arith, c .1 .within);
           passes = c .1 .passes;
           has = c .1 .has;
-          below = λ k u w t. by-cases (decLe k n) (λ d. c .1 .below k u d t) (λ d. let q : k ≡ suc n = omega arith in absurd (true≢false (sym (rw q at t) ∙ e)));
+          below = λ k u w t. by-cases (decLe k n) (λ d. c .1 .below k u d t)
+              (λ d. let q : k ≡ suc n = omega arith in absurd (true≢false (sym (rw q at t) ∙ e)));
         },
       )
 
-  pub least-cases : (n : ℕ) → ((k : ℕ) → 0 < k → k ≤ n → 0 < g k) → ((least p g n ≡ 0) × None p n) ⊎ ((0 < least p g n) × LeastAt p g n (least p g n))
+  pub least-cases : (n : ℕ) → ((k : ℕ) → 0 < k → k ≤ n → 0 < g k)
+      → ((least p g n ≡ 0) × None p n) ⊎ ((0 < least p g n) × LeastAt p g n (least p g n))
   least-cases zero h = inl (refl, record { fails = λ k u v. absurd (omega arith) })
   least-cases (suc n) h =
       let c = least-cases n (λ k u v. h k u (omega arith)) in
@@ -147,7 +160,8 @@ module _ (p : ℕ → Bool) (g : ℕ → ℕ) where
       let l = c .1 in
       sym
       (lowest-is (λ f. ltb 0 (lowest (λ r. eqb (g r) f && p r) n)) m (least p g n) (c .0) (rw (l .has) at (h (l .row) (l .pos) (l .within) .1))
-      (lt-ltb 0 _ (lowest-some (λ r. eqb (g r) (least p g n) && p r) n (l .row) (l .pos) (l .within) (rw (eq-eqb (g (l .row)) (least p g n) (l .has)) (l .passes))))
+      (lt-ltb 0 _ (lowest-some (λ r. eqb (g r) (least p g n) && p r) n (l .row) (l .pos) (l .within)
+      (rw (eq-eqb (g (l .row)) (least p g n) (l .has)) (l .passes))))
       (λ f u v.
       le-ltb 0 _
       (none-le

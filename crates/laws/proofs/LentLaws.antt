@@ -15,7 +15,8 @@ stored-run vs l at h = sets-eq vs l at h ∙ append-assoc (take at l) vs (drop (
 pub sets-other : (vs l : List ℕ) (at j : ℕ) → (at ≤ j → j < at + length vs → ⊥) → getD (sets l at vs) j 0 ≡ getD l j 0
 sets-other [] l at j out = refl
 sets-other (v ∷ vs) l at j out =
-    sets-other vs (set l at v) (suc at) j (λ a b. out (omega arith) (omega arith)) ∙ getD-set-other l at j v 0 (λ e. out (omega arith) (omega arith))
+    sets-other vs (set l at v) (suc at) j (λ a b. out (omega arith) (omega arith))
+    ∙ getD-set-other l at j v 0 (λ e. out (omega arith) (omega arith))
 
 -- a part `&mut xs[at..]` that came back as f of what it was: what stands before it stays
 pub lent-from : (f : List ℕ → List ℕ) (at : ℕ) (xs ys : List ℕ) → ys ≡ f (take (length xs - at) (drop at xs))

@@ -38,11 +38,20 @@ module _ (p : ℕ → Bool) where
       let q : r ≡ suc n = omega arith in
       rw (lowest-none n (λ k u v. h k u (omega arith))) (rw (rw q at e) (sym q)))
 
-  cases-go : (n a : ℕ) → ((a ≡ 0) × None p n) ⊎ At p n a → (b : Bool) → p (suc n) ≡ b → let r = firstNonzero a (cond b (suc n) 0) in ((r ≡ 0) × None p (suc n)) ⊎ At p (suc n) r
-  cases-go n a (inr h) b e = rw (nonzero-pos a (cond b (suc n) 0) (h .pos)) (inr (record { pos = h .pos; within = omega arith; passes = h .passes; below = h .below }))
-  cases-go n a (inl h) true e = rw (h .0) (inr (record { pos = omega arith; within = le-refl (suc n); passes = e; below = λ k u v. h .1 .fails k u (omega arith) }))
+  cases-go : (n a : ℕ) → ((a ≡ 0) × None p n) ⊎ At p n a → (b : Bool) → p (suc n) ≡ b
+      → let r = firstNonzero a (cond b (suc n) 0) in ((r ≡ 0) × None p (suc n)) ⊎ At p (suc n) r
+  cases-go n a (inr h) b e = rw (nonzero-pos a (cond b (suc n) 0) (h .pos))
+      (inr (record { pos = h .pos; within = omega arith; passes = h .passes; below = h .below }))
+  cases-go n a (inl h) true e = rw (h .0) (inr
+      (record { pos = omega arith; within = le-refl (suc n); passes = e; below = λ k u v. h .1 .fails k u (omega arith) }))
   cases-go n a (inl h) false e =
-      rw (h .0) (inl (refl, record { fails = λ k u v. by-cases (decLe k n) (λ c. h .1 .fails k u c) (λ c. let q : k ≡ suc n = omega arith in rw q e) }))
+      rw (h .0) (inl (
+        refl,
+        record {
+          fails = λ k u v.
+              by-cases (decLe k n) (λ c. h .1 .fails k u c) (λ c. let q : k ≡ suc n = omega arith in rw q e);
+        },
+      ))
 
   pub lowest-cases : (n : ℕ) → ((lowest p n ≡ 0) × None p n) ⊎ At p n (lowest p n)
   lowest-cases zero = inl (refl, record { fails = λ k u v. absurd (omega arith) })
@@ -108,7 +117,8 @@ lowest-shift p n e =
     ∙ ap shifted (sym (h .0)))
     (λ h.
     lowest-is p (suc n) (suc (lowest (λ j. p (suc j)) n)) (omega arith) (suc-le-suc (h .within)) (h .passes)
-    (λ k a b. by-cases (decLe k 1) (λ c. let q : k ≡ 1 = omega arith in rw q e) (λ c. let q : k ≡ suc (k - 1) = omega arith in ap p q ∙ h .below (k - 1) (omega arith) (omega arith)))
+    (λ k a b. by-cases (decLe k 1) (λ c. let q : k ≡ 1 = omega arith in rw q e)
+    (λ c. let q : k ≡ suc (k - 1) = omega arith in ap p q ∙ h .below (k - 1) (omega arith) (omega arith)))
     ∙ sym (shifted-pos _ (h .pos)))
     (lowest-cases (λ j. p (suc j)) n)
 

@@ -25,7 +25,8 @@ stuck-within step [] st i j e = let z : _≡_ {A = ℕ} 0 1 = cc in absurd (no z
     no z = omega arith
 stuck-within {S} step (b ∷ bs) st i j e = by (λ st₁. stuck-within step bs st₁ (suc i) j) (step st b) e
   where
-    by : ((st₁ : S) → run step bs st₁ (suc i) ≡ stuck j → j ≤ suc i + length bs) → (o : Next S) → follow (run step bs) i o ≡ stuck j → j ≤ i + suc (length bs)
+    by : ((st₁ : S) → run step bs st₁ (suc i) ≡ stuck j → j ≤ suc i + length bs) → (o : Next S)
+        → follow (run step bs) i o ≡ stuck j → j ≤ i + suc (length bs)
     by ih (go st₁) e = omega (arith, ih st₁ e)
     by ih stop e = let h : j ≡ i = cc in omega arith
 
@@ -37,7 +38,8 @@ module _ {S : Type 0} (step : S → ℕ → Next S) (Final : S → Type 0) where
   run-accepts [] st i st′ f e = let h : st ≡ st′ = cc in subst Final (sym h) f
   run-accepts (b ∷ bs) st i st′ f e = by (λ st₁. run-accepts bs st₁ (suc i) st′ f) (step st b) e
     where
-      by : ((st₁ : S) → run step bs st₁ (suc i) ≡ ended st′ → Accepts step Final bs st₁) → (o : Next S) → follow (run step bs) i o ≡ ended st′ → onNext (Accepts step Final bs) o
+      by : ((st₁ : S) → run step bs st₁ (suc i) ≡ ended st′ → Accepts step Final bs st₁) → (o : Next S)
+          → follow (run step bs) i o ≡ ended st′ → onNext (Accepts step Final bs) o
       by ih (go st₁) e = ih st₁ e
       by ih stop e = let z : _≡_ {A = ℕ} 0 1 = cc in omega arith
 
@@ -91,7 +93,8 @@ module _ {S : Type 0} (step : S → ℕ → Next S) (Final : S → Type 0) where
             no : _≡_ {A = ℕ} 0 1 → ⊥
             no z = omega arith
 
-pub accepts-map : {S : Type 0} (step : S → ℕ → Next S) (P Q : S → Type 0) → ((st : S) → P st → Q st) → (s : List ℕ) (st : S) → Accepts step P s st → Accepts step Q s st
+pub accepts-map : {S : Type 0} (step : S → ℕ → Next S) (P Q : S → Type 0) → ((st : S) → P st → Q st)
+    → (s : List ℕ) (st : S) → Accepts step P s st → Accepts step Q s st
 accepts-map step P Q f [] st a = f st a
 accepts-map {S} step P Q f (b ∷ bs) st a = by (λ st₁. accepts-map step P Q f bs st₁) (step st b) a
   where

@@ -39,7 +39,8 @@ pub paint-start : (f : ℕ → ℕ) (n : ℕ) (d : List ℕ) (a row : ℕ) → n
 paint-start f n d a row h = front-of (painted f d a row 0) n d d h refl (λ i u. refl) (λ i u. refl)
 
 module _ (f : ℕ → ℕ) (n : ℕ) (d e : List ℕ) (w : Into f n n) (room : n ≤ length d) (a row : ℕ) (x : 0 < a) (y : a ≤ n) where
-  pub paint-turn : (i t : ℕ) → e ≡ front (painted f d a row i) n d → t ≡ iterate f (i + 1) a → set e (t - 1) row ≡ front (painted f d a row (i + 1)) n d
+  pub paint-turn : (i t : ℕ) → e ≡ front (painted f d a row i) n d → t ≡ iterate f (i + 1) a
+      → set e (t - 1) row ≡ front (painted f d a row (i + 1)) n d
   paint-turn i t q r =
       let r' : t ≡ iterate f (suc i) a = rw add-one at r in
       let W = iterate-in f n w (suc i) a x y in
@@ -52,9 +53,11 @@ module _ (f : ℕ → ℕ) (n : ℕ) (d e : List ℕ) (w : Into f n n) (room : n
       (λ k b c. rw (meets-miss f i a (suc k) (λ m. c (omega arith))) refl))
 
   -- the start is back: what is painted is what all n moves would paint
-  pub paint-back : Inj f n → (i t : ℕ) → t ≡ iterate f (i + 1) a → t ≡ a → i < n → None (λ k. eqb (iterate f k a) a) i → e ≡ front (painted f d a row (i + 1)) n d → e ≡ front (painted f d a row n) n d
+  pub paint-back : Inj f n → (i t : ℕ) → t ≡ iterate f (i + 1) a → t ≡ a → i < n → None (λ k. eqb (iterate f k a) a) i
+      → e ≡ front (painted f d a row (i + 1)) n d → e ≡ front (painted f d a row n) n d
   paint-back j i t r b l N q =
-      let z : i + 1 ≡ firstReturn f n a = lowest-next (λ k. eqb (iterate f k a) a) n i l N (eq-eqb (iterate f (suc i) a) a (sym (rw add-one at r) ∙ b)) in
+      let z : i + 1 ≡ firstReturn f n a = lowest-next (λ k. eqb (iterate f k a) a) n i l N
+      (eq-eqb (iterate f (suc i) a) a (sym (rw add-one at r) ∙ b)) in
       q
       ∙ front-ext (painted f d a row (i + 1)) (painted f d a row n) n d
       (λ k u. ap (λ (c : Bool). cond c row (getD d k 0)) (ap (λ (m : ℕ). meets f m a (suc k)) z ∙ meets-round f n w j a x y (suc k)))
@@ -78,7 +81,8 @@ two h =
     (λ c. ne-eqb (min 2 h) 2 (λ e. omega arith) ∙ sym (le-ltb 1 h (omega arith)))
 
 -- the first mark that shows two is the lowest that two lead to
-pub pred-answer : (f : ℕ → ℕ) (n : ℕ) (d m : List ℕ) → m ≡ front (count f n) n d → (r : ℕ) → r ≡ lowest (λ (s : ℕ). eqb (entry m s) 2) n → r ≡ firstDoubled f n
+pub pred-answer : (f : ℕ → ℕ) (n : ℕ) (d m : List ℕ) → m ≡ front (count f n) n d → (r : ℕ)
+    → r ≡ lowest (λ (s : ℕ). eqb (entry m s) 2) n → r ≡ firstDoubled f n
 pred-answer f n d m q r F =
     F
     ∙ lowest-ext (λ (s : ℕ). eqb (entry m s) 2) (λ (s : ℕ). ltb 1 (hits f n s)) n
@@ -87,7 +91,8 @@ pred-answer f n d m q r F =
     ∙ two (hits f n s))
 
 -- the first mark that shows none is the lowest that no row's walk meets
-pub unmet-answer : (f : ℕ → ℕ) (n : ℕ) (st : ℕ → ℕ) (R : ℕ) (d m : List ℕ) → m ≡ front (ownerAt f n st R) n d → (s : ℕ) → s ≡ lowest (λ (t : ℕ). eqb (entry m t) 0) n → s ≡ firstUnmet f n st R
+pub unmet-answer : (f : ℕ → ℕ) (n : ℕ) (st : ℕ → ℕ) (R : ℕ) (d m : List ℕ) → m ≡ front (ownerAt f n st R) n d → (s : ℕ)
+    → s ≡ lowest (λ (t : ℕ). eqb (entry m t) 0) n → s ≡ firstUnmet f n st R
 unmet-answer f n st R d m q s F =
     F
     ∙ lowest-ext (λ (t : ℕ). eqb (entry m t) 0) (λ (t : ℕ). eqb (owner f n st R t) 0) n
@@ -124,7 +129,8 @@ module _ (f : ℕ → ℕ) (n : ℕ) (st : ℕ → ℕ) (R : ℕ) (m m₀ : List
   pub own-next : entry m (st (suc r)) ≡ 0 → None (alreadyMet f n st) (r + 1)
   own-next z = none-next (alreadyMet f n st) r N (le-ltb 0 (owner f n st r (st (suc r))) (omega (arith, own-read)))
 
-  pub own-turn : Inj f n → f 0 ≡ 0 → entry m (st (suc r)) ≡ 0 → (e : List ℕ) → e ≡ front (painted f m (st (suc r)) (r + 1) n) n m → e ≡ front (ownerAt f n st (r + 1)) n m₀
+  pub own-turn : Inj f n → f 0 ≡ 0 → entry m (st (suc r)) ≡ 0 → (e : List ℕ)
+      → e ≡ front (painted f m (st (suc r)) (r + 1) n) n m → e ≡ front (ownerAt f n st (r + 1)) n m₀
   own-turn i o z e u =
       let P : ℕ → ℕ = painted f m (st (suc r)) (r + 1) n in
       rw add-one

@@ -28,7 +28,8 @@ pub meets-hit : (f : ℕ → ℕ) (k a s : ℕ) → iterate f (suc k) a ≡ s �
 meets-hit f k a s e = lt-ltb 0 _ (lowest-some (λ i. eqb (iterate f i a) s) (suc k) (suc k) (omega arith) (le-refl (suc k)) (eq-eqb _ s e))
 
 pub meets-miss : (f : ℕ → ℕ) (k a s : ℕ) → (iterate f (suc k) a ≡ s → ⊥) → meets f (suc k) a s ≡ meets f k a s
-meets-miss f k a s h = ap (ltb 0) (ap (λ (b : Bool). firstNonzero (lowest (λ i. eqb (iterate f i a) s) k) (cond b (suc k) 0)) (ne-eqb _ s h) ∙ nonzero-zero (lowest (λ i. eqb (iterate f i a) s) k))
+meets-miss f k a s h = ap (ltb 0) (ap (λ (b : Bool). firstNonzero (lowest (λ i. eqb (iterate f i a) s) k)
+    (cond b (suc k) 0)) (ne-eqb _ s h) ∙ nonzero-zero (lowest (λ i. eqb (iterate f i a) s) k))
 
 -- 0 leads to 0: a walk from there meets none of 1..n, and one from 1..n never meets 0
 iterate-zero : (f : ℕ → ℕ) → f 0 ≡ 0 → (k : ℕ) → iterate f k 0 ≡ 0
@@ -36,10 +37,12 @@ iterate-zero f z zero = refl
 iterate-zero f z (suc k) = ap f (iterate-zero f z k) ∙ z
 
 pub from-zero : (f : ℕ → ℕ) → f 0 ≡ 0 → (n s : ℕ) → 0 < s → meets f n 0 s ≡ false
-from-zero f z n s a = ap (ltb 0) (lowest-none (λ k. eqb (iterate f k 0) s) n (λ k u v. ne-eqb (iterate f k 0) s (λ e. omega (arith, iterate-zero f z k))))
+from-zero f z n s a = ap (ltb 0) (lowest-none (λ k. eqb (iterate f k 0) s) n
+    (λ k u v. ne-eqb (iterate f k 0) s (λ e. omega (arith, iterate-zero f z k))))
 
 pub never-zero : (f : ℕ → ℕ) (n : ℕ) → Into f n n → (m a : ℕ) → 0 < a → a ≤ n → meets f m a 0 ≡ false
-never-zero f n g m a x y = ap (ltb 0) (lowest-none (λ k. eqb (iterate f k a) 0) m (λ k u v. ne-eqb (iterate f k a) 0 (λ e. omega (arith, iterate-in f n g k a x y .0))))
+never-zero f n g m a x y = ap (ltb 0) (lowest-none (λ k. eqb (iterate f k a) 0) m
+    (λ k u v. ne-eqb (iterate f k a) 0 (λ e. omega (arith, iterate-in f n g k a x y .0))))
 
 module _ (f : ℕ → ℕ) (n : ℕ) (g : Into f n n) (h : Inj f n) where
   iterate-cancel : (k s t : ℕ) → 0 < s → s ≤ n → 0 < t → t ≤ n → iterate f k s ≡ iterate f k t → s ≡ t
@@ -70,7 +73,8 @@ module _ (f : ℕ → ℕ) (n : ℕ) (g : Into f n n) (h : Inj f n) where
         let apart : (i j : ℕ) → i < j → 0 < i → j ≤ suc n → iterate f i s ≡ iterate f j s → ⊥ =
         λ i j l u v e. true≢false (sym (eq-eqb (iterate f (j - i) s) s (back i j l e)) ∙ c .1 .fails (j - i) (omega arith) (omega arith)) in
         let inj : Inj (λ j. iterate f j s) (suc n) =
-        λ i j u v w x e. by-cases (decLt i j) (λ l. absurd (apart i j l u x e)) (λ l. by-cases (decLt j i) (λ m. absurd (apart j i m w v (sym e))) (λ m. omega arith)) in
+        λ i j u v w x e. by-cases (decLt i j) (λ l. absurd (apart i j l u x e))
+        (λ l. by-cases (decLt j i) (λ m. absurd (apart j i m w v (sym e))) (λ m. omega arith)) in
         absurd (omega (arith, pigeon (λ j. iterate f j s) (suc n) n (λ k u v. iterate-in f n g k s a b) inj)))
         (λ c. c)
         (lowest-cases (λ k. eqb (iterate f k s) s) n)
@@ -101,7 +105,8 @@ module _ (f : ℕ → ℕ) (n : ℕ) (g : Into f n n) (h : Inj f n) where
     pub meets-of : (k t : ℕ) → iterate f k s ≡ t → meets f n s t ≡ true
     meets-of k t e =
         let r = reduce k in
-        lt-ltb 0 _ (lowest-some (λ k. eqb (iterate f k s) t) n (r .0) (r .1) (omega (arith, r .2, closes .within)) (eq-eqb (iterate f (r .0) s) t (r .3 ∙ e)))
+        lt-ltb 0 _ (lowest-some (λ k. eqb (iterate f k s) t) n (r .0) (r .1) (omega (arith, r .2, closes .within))
+        (eq-eqb (iterate f (r .0) s) t (r .3 ∙ e)))
 
     pub of-meets : (t : ℕ) → meets f n s t ≡ true → (k : ℕ) × (iterate f k s ≡ t)
     of-meets t e =
@@ -114,7 +119,8 @@ module _ (f : ℕ → ℕ) (n : ℕ) (g : Into f n n) (h : Inj f n) where
         let r = reduce k in
         let q : firstReturn f n s - r .0 + r .0 ≡ firstReturn f n s = omega (arith, r .2) in (
           firstReturn f n s - r .0,
-          ap (iterate f (firstReturn f n s - r .0)) (sym (r .3 ∙ e)) ∙ sym (iterate-add f (firstReturn f n s - r .0) (r .0) s) ∙ ap (λ (k : ℕ). iterate f k s) q ∙ returns-to,
+          ap (iterate f (firstReturn f n s - r .0)) (sym (r .3 ∙ e))
+              ∙ sym (iterate-add f (firstReturn f n s - r .0) (r .0) s) ∙ ap (λ (k : ℕ). iterate f k s) q ∙ returns-to,
         )
 
     -- the round has as many places as moves
@@ -144,7 +150,8 @@ module _ (f : ℕ → ℕ) (n : ℕ) (g : Into f n n) (h : Inj f n) where
         (λ c.
         let w = of-meets t c in
         let r = reduce (w .0) in
-        lt-ltb 0 _ (lowest-some (λ k. eqb (iterate f k s) t) (firstReturn f n s) (r .0) (r .1) (r .2) (eq-eqb (iterate f (r .0) s) t (r .3 ∙ w .1))) ∙ sym c)
+        lt-ltb 0 _ (lowest-some (λ k. eqb (iterate f k s) t) (firstReturn f n s) (r .0) (r .1) (r .2)
+        (eq-eqb (iterate f (r .0) s) t (r .3 ∙ w .1))) ∙ sym c)
         (λ c.
         bool-cases (meets f (firstReturn f n s) s t)
         (λ d. absurd (true≢false (sym (meets-of (lowest (λ k. eqb (iterate f k s) t) (firstReturn f n s)) t (eqb-true _ t (lowest-pos (λ k. eqb
@@ -152,14 +159,16 @@ module _ (f : ℕ → ℕ) (n : ℕ) (g : Into f n n) (h : Inj f n) where
         (λ d. d ∙ sym c))
 
   -- TWO WALKS THAT MEET meet the same places
-  pub same-round : (s : ℕ) (a : 0 < s) (b : s ≤ n) (t : ℕ) (c : 0 < t) (d : t ≤ n) (u v : ℕ) → meets f n s u ≡ true → meets f n t u ≡ true → meets f n t v ≡ true → meets f n s v ≡ true
+  pub same-round : (s : ℕ) (a : 0 < s) (b : s ≤ n) (t : ℕ) (c : 0 < t) (d : t ≤ n) (u v : ℕ) → meets f n s u ≡ true
+      → meets f n t u ≡ true → meets f n t v ≡ true → meets f n s v ≡ true
   same-round s a b t c d u v e₁ e₂ e₃ =
       let w₁ = of-meets s a b u e₁ in
       let w₂ = of-meets t c d u e₂ in
       let w₃ = of-meets t c d v e₃ in
       let r = turn t c d (w₂ .0) u (w₂ .1) in
       meets-of s a b (w₃ .0 + (r .0 + w₁ .0)) v
-      (iterate-add f (w₃ .0) (r .0 + w₁ .0) s ∙ ap (iterate f (w₃ .0)) (iterate-add f (r .0) (w₁ .0) s ∙ ap (iterate f (r .0)) (w₁ .1) ∙ r .1) ∙ w₃ .1)
+      (iterate-add f (w₃ .0) (r .0 + w₁ .0) s ∙ ap (iterate f (w₃ .0))
+      (iterate-add f (r .0) (w₁ .0) s ∙ ap (iterate f (r .0)) (w₁ .1) ∙ r .1) ∙ w₃ .1)
 
   -- a row r + 1 whose start no earlier row's walk meets: its walk is marked with it, and no mark of an earlier row is lost.
   -- A row whose start is 0 has no place of 1..n, since 0 leads to 0
@@ -195,11 +204,13 @@ module _ (f : ℕ → ℕ) (n : ℕ) (g : Into f n n) (h : Inj f n) where
         (λ t.
         let S = starts r a b in
         let K = starts k u (omega arith) in
-        let m : meets f n (st k) (st r) ≡ true = same-round (st k) (K .0) (K .1) (st r) (S .0) (S .1) s (st r) t e (meets-of (st r) (S .0) (S .1) 0 (st r) refl) in
+        let m : meets f n (st k) (st r) ≡ true = same-round (st k) (K .0) (K .1) (st r) (S .0) (S .1) s (st r) t e
+        (meets-of (st r) (S .0) (S .1) 0 (st r) refl) in
         let z = lowest-zero (λ r. ltb 0 (owner f n st (pred r) (st r))) R once in
         absurd
         (true≢false
-        (sym (lt-ltb 0 (owner f n st (pred r) (st r)) (lowest-some (λ q. meets f n (st q) (st r)) (pred r) k u (omega arith) m)) ∙ z .fails r a b)))
+        (sym (lt-ltb 0 (owner f n st (pred r) (st r))
+        (lowest-some (λ q. meets f n (st q) (st r)) (pred r) k u (omega arith) m)) ∙ z .fails r a b)))
         (λ t. t))
 
     pub owner-on : (r s : ℕ) → 0 < r → owner f n st R s ≡ r → meets f n (st r) s ≡ true

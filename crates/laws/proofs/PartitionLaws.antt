@@ -30,5 +30,6 @@ module _ (g : ℕ → ℕ) where
     covered = λ p a b. part-of n p (omega arith) (omega arith);
     once = λ p i j a b x y.
         by-cases (decLt i j) (λ c. absurd (omega (arith, rising n h i (pred j) (omega arith) (omega (arith, b .1)), x .1, y .0)))
-        (λ c. by-cases (decLt j i) (λ d. absurd (omega (arith, rising n h j (pred i) (omega arith) (omega (arith, a .1)), y .1, x .0))) (λ d. omega arith));
+        (λ c. by-cases (decLt j i) (λ d. absurd (omega
+        (arith, rising n h j (pred i) (omega arith) (omega (arith, a .1)), y .1, x .0))) (λ d. omega arith));
   }

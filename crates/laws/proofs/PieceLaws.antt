@@ -17,7 +17,8 @@ sets-append (x ∷ a) b l at =
     sets-append a b (set l at x) (suc at) ∙ ap (λ (k : ℕ). sets (sets (set l at x) (suc at) a) k b) q
 
 -- ---- a run copied element by element: what is left to store gives the whole
-pub sets-next : (vs l : List ℕ) (at i : ℕ) → i < length vs → sets l (at + i) (drop i vs) ≡ sets (set l (at + i) (getD vs i 0)) (at + (i + 1)) (drop (i + 1) vs)
+pub sets-next : (vs l : List ℕ) (at i : ℕ) → i < length vs
+    → sets l (at + i) (drop i vs) ≡ sets (set l (at + i) (getD vs i 0)) (at + (i + 1)) (drop (i + 1) vs)
 sets-next vs l at i h =
     let q : suc (at + i) ≡ at + suc i = omega arith in
     rw (add-one i, drop-cons vs i 0 h) (ap (λ (k : ℕ). sets (set l (at + i) (getD vs i 0)) k (drop (suc i) vs)) q)
@@ -29,13 +30,15 @@ sets-end vs l at i h = rw (drop-of-length-le vs h)
 pub begun-none : (d : List ℕ) → Begun d [] 0 d
 begun-none d = record { place = refl; holds = refl }
 
-pub begun-more : {d text e : List ℕ} {at : ℕ} (piece : List ℕ) {e′ : List ℕ} {at′ : ℕ} → Begun d text at e → at′ ≡ at + length piece → e′ ≡ sets e at piece → Begun d (text ++ piece) at′ e′
+pub begun-more : {d text e : List ℕ} {at : ℕ} (piece : List ℕ) {e′ : List ℕ} {at′ : ℕ} → Begun d text at e
+    → at′ ≡ at + length piece → e′ ≡ sets e at piece → Begun d (text ++ piece) at′ e′
 begun-more {d} {text} {e} {at} piece {e′} {at′} b p h =
     record {
       place = simp length-append (omega (arith, b .place));
       holds =
           let q : at ≡ 0 + length text = omega (arith, b .place) in
-          h ∙ ap (λ (l : List ℕ). sets l at piece) (b .holds) ∙ ap (λ (k : ℕ). sets (sets d 0 text) k piece) q ∙ sym (sets-append text piece d 0);
+          h ∙ ap (λ (l : List ℕ). sets l at piece) (b .holds) ∙ ap (λ (k : ℕ). sets (sets d 0 text) k piece) q
+          ∙ sym (sets-append text piece d 0);
     }
 
 -- at the end the text is the buffer's front, and the rest is as it was

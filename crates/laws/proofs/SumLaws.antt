@@ -48,7 +48,8 @@ sum-add g h (suc n) = omega (arith, sum-add g h n)
 
 pub sum-swap : (g : ℕ → ℕ → ℕ) (m n : ℕ) → sum (λ i. sum (λ j. g i j) n) m ≡ sum (λ j. sum (λ i. g i j) m) n
 sum-swap g zero n = sym (sum-zeros n)
-sum-swap g (suc m) n = ap (λ (x : ℕ). x + sum (λ j. g (suc m) j) n) (sum-swap g m n) ∙ sym (sum-add (λ j. sum (λ i. g i j) m) (λ j. g (suc m) j) n)
+sum-swap g (suc m) n = ap (λ (x : ℕ). x + sum (λ j. g (suc m) j) n) (sum-swap g m n)
+    ∙ sym (sum-add (λ j. sum (λ i. g i j) m) (λ j. g (suc m) j) n)
 
 -- each at most 1, and all of them n: each is 1
 pub sum-full : (g : ℕ → ℕ) (n : ℕ) → ((k : ℕ) → 0 < k → k ≤ n → g k ≤ 1) → n ≤ sum g n → (k : ℕ) → 0 < k → k ≤ n → g k ≡ 1
@@ -81,7 +82,11 @@ module _ (p : ℕ → Bool) where
   sum-most n h =
       ⊎-elim
       (λ c. omega (arith, sum-none n (c .1 .fails)))
-      (λ c. omega (arith, sum-one n (lowest p n) (c .pos) (c .within) (c .passes) (λ k u v t. h k (lowest p n) u v (c .pos) (c .within) t (c .passes))))
+      (λ c. omega (
+        arith,
+        sum-one n (lowest p n) (c .pos) (c .within) (c .passes)
+            (λ k u v t. h k (lowest p n) u v (c .pos) (c .within) t (c .passes)),
+      ))
       (lowest-cases p n)
 
 -- a is one of 1..n

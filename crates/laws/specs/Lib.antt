@@ -7,4 +7,5 @@ pub mod Machine
 pub mod Language
 pub mod Foremost
 pub mod Partition
+pub mod Texts
 pub mod Serving

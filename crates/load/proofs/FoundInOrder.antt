@@ -59,7 +59,8 @@ module _ (T : Type 0) (rank : T → ℕ) (apart : (x y : T) → rank x ≡ rank 
             ∙ nothing-found l (suc k) (o .1) (one-more k x r h e) .1 (λ y u. w y (omega arith)),
       )
 
-  pub found-failing : (l : List Finding) (k : ℕ) → InOrder l k → Earlier k → (q : Finding) → firstFinding l ≡ q → (numberOf q ≡ 0 → ⊥) → FirstFailing q
+  pub found-failing : (l : List Finding) (k : ℕ) → InOrder l k → Earlier k → (q : Finding) → firstFinding l ≡ q
+      → (numberOf q ≡ 0 → ⊥) → FirstFailing q
   found-failing [] k o e q p n = absurd (n (ap numberOf (sym p)))
   found-failing (a ∷ l) k o e q p n =
       let x = o .0 .0 in
@@ -73,7 +74,8 @@ module _ (T : Type 0) (rank : T → ℕ) (apart : (x y : T) → rank x ≡ rank 
       let z = eqb-false (numberOf a) 0 t in
       record { test = x; earlier = λ y u. e y (omega arith); fails = exact .1 q .0 (sym (found-stops a (firstFinding l) z) ∙ p, n) })
 
-  pub failing-found : (l : List Finding) (k : ℕ) → InOrder l k → Earlier k → (q : Finding) → (w : FirstFailing q) → k ≤ rank (w .test) → rank (w .test) < k + length l
+  pub failing-found : (l : List Finding) (k : ℕ) → InOrder l k → Earlier k → (q : Finding) → (w : FirstFailing q)
+      → k ≤ rank (w .test) → rank (w .test) < k + length l
       → (firstFinding l ≡ q) × (numberOf q ≡ 0 → ⊥)
   failing-found [] k o e q w a b = absurd (omega arith)
   failing-found (a ∷ l) k o e q w u v =
@@ -107,7 +109,8 @@ module _ (T : Type 0) (rank : T → ℕ) (apart : (x y : T) → rank x ≡ rank 
     )
 
 -- ---- the finding of a table's refusal r that is exact by itself
-pub exactly-of : (n : TableName) (r : Refusal) (H : Type 0) (F : ℕ → ℕ → Type 0) → (r .number ≡ 0) ↔ H → ((m p : ℕ) → ((r ≡ refusal m p) × (m ≡ 0 → ⊥)) ↔ F m p)
+pub exactly-of : (n : TableName) (r : Refusal) (H : Type 0) (F : ℕ → ℕ → Type 0) → (r .number ≡ 0) ↔ H
+    → ((m p : ℕ) → ((r ≡ refusal m p) × (m ≡ 0 → ⊥)) ↔ F m p)
     → Exactly (finding n r) H (λ q. (n ≡ q .table) × F (q .refusal .number) (q .refusal .place))
 exactly-of n r H F e f = (
   e,
@@ -134,7 +137,8 @@ exactly-empty n rows =
 
 -- ---- the lowest of 1..n that the test b finds, where b says in words that P fails: a is what is found there, g k at k
 module _ (P : ℕ → Type 0) (n : ℕ) (b : ℕ → Bool) (exact : (k : ℕ) → In n k → (b k ≡ false) ↔ P k) (a : Finding) (g : ℕ → Finding)
-    (none : lowest b n ≡ 0 → numberOf a ≡ 0) (some : 0 < lowest b n → a ≡ g (lowest b n)) (refuses : (k : ℕ) → In n k → b k ≡ true → numberOf (g k) ≡ 0 → ⊥) where
+    (none : lowest b n ≡ 0 → numberOf a ≡ 0) (some : 0 < lowest b n → a ≡ g (lowest b n))
+    (refuses : (k : ℕ) → In n k → b k ≡ true → numberOf (g k) ≡ 0 → ⊥) where
   wrong : (k : ℕ) → In n k → (P k → ⊥) → b k ≡ true
   wrong k i f = bool-cases (b k) (λ t. t) (λ t. absurd (f (exact k i .0 t)))
 

@@ -22,7 +22,6 @@ use Rattle.laws.proofs.LowestLaws.{bool-cases, lowest-le}
 use Rattle.laws.proofs.TestLaws.{clash, not-above}
 use Rattle.refusal.specs.declared.Refusal.{Refusal}
 use Rattle.refusal.specs.Order.{refusal, refuses, atRow, lowestOf}
-use Rattle.refusal.proofs.OrderLaws.{located-zero, located-at}
 use Rattle.grammar.specs.Words.{Reading}
 use Rattle.field.specs.declared.FieldType.{FieldType}
 use Rattle.field.specs.Letters.{letterI, letterK}
@@ -35,7 +34,8 @@ use Rattle.header.proofs.AcceptedExactly.{accepted-once}
 use Rattle.header.proofs.LayoutMeans.{laid-out}
 use Rattle.header.proofs.ColumnOfName.{Named, column-of-name, column-of-name-only}
 use Rattle.opening.specs.declared.Table.{Table}
-use Rattle.opening.specs.Opening.{mostRows, tableRefusal}
+use Rattle.limits.specs.Limits.{mostRows}
+use Rattle.opening.specs.Opening.{tableRefusal}
 use Rattle.table.specs.Rows as rows
 use Rattle.table.specs.Rows.{noSuchColumn, columnAt, rowJudged, rowsRefusal}
 use Rattle.opening.specs.Words as opening
@@ -52,14 +52,16 @@ use Rattle.load.specs.declared.Tables.{Tables}
 use Rattle.load.specs.declared.Finding.{Finding}
 use Rattle.load.specs.declared.Counts.{Counts}
 use Rattle.load.specs.declared.Loaded.the-variants.{Tile, Refused}
-use Rattle.load.specs.Sources.{Files, fileOf, indexOf, tableIn, tableOf, tablesOf, nameAt, tableAt, tripletsToo, typeFits, fitting}
-use Rattle.load.specs.Sources.{columnFor, columnsFor, atPlace, rowsFor}
-use Rattle.load.specs.Load.{finding, opening, missing, columnFinding, emptyFinding, tooShort, roomAt, roomFinding, rowsFinding}
-use Rattle.load.specs.Load.{columnsOf, tests, loadFinding, counts, loadOf}
+use Rattle.load.specs.Sources.{Files, fileOf, indexOf, tableIn, tablesOf, nameAt, tableAt, tripletsToo, typeFits, fitting}
+use Rattle.load.specs.Sources.{columnFor, atPlace, rowsFor}
+use Rattle.load.specs.Load.{finding, foundAt, opening, missing, columnWrong, columnFinding, emptyFinding, tooShort, roomNeeded, roomFinding, rowsFinding}
+use Rattle.load.specs.Sources.{columnsOf}
+use Rattle.load.specs.Load.{tests, loadFinding, counts, loadOf}
 use Rattle.load.specs.Words.{OpensWith, rowsOf, TakesTriplets, TypeRight, ColumnThere, RoomFor, layoutIn, rowEnd, rowStart, RowRight}
 use Rattle.load.specs.Words.{IsEmpty, countOf, Loads, Test, opened, columns-there, faces-some, rings-some, room-enough, rows-right}
 use Rattle.load.specs.Words.{turn, rank, Holds, FailsWith, RefusedWith}
-use Rattle.load.proofs.TopLaws.{numberOf}
+use Rattle.load.proofs.FitLaws.{found-there}
+use Rattle.load.proofs.TopLaws.{numberOf, table-in, column-at-place, rows-at-place}
 use Rattle.load.proofs.FoundInOrder.{Exactly, InOrder, nothing-exactly, found-exactly, exactly-of, exactly-empty, exactly-lowest}
 
 -- ---- the tests one after the other
@@ -99,21 +101,6 @@ rank-below faces-some = omega arith
 rank-below rings-some = omega arith
 rank-below room-enough = omega arith
 rank-below (rows-right n) = omega (arith, turn-below n)
-
--- what holds of one of ten
-ten : (P : ℕ → Type 0) → P 1 → P 2 → P 3 → P 4 → P 5 → P 6 → P 7 → P 8 → P 9 → P 10 → (k : ℕ) → In 10 k → P k
-ten P a b c d e f g h i j zero w = absurd (omega (arith, w .0))
-ten P a b c d e f g h i j (suc zero) w = a
-ten P a b c d e f g h i j (suc (suc zero)) w = b
-ten P a b c d e f g h i j (suc (suc (suc zero))) w = c
-ten P a b c d e f g h i j (suc (suc (suc (suc zero)))) w = d
-ten P a b c d e f g h i j (suc (suc (suc (suc (suc zero))))) w = e
-ten P a b c d e f g h i j (suc (suc (suc (suc (suc (suc zero)))))) w = f
-ten P a b c d e f g h i j (suc (suc (suc (suc (suc (suc (suc zero))))))) w = g
-ten P a b c d e f g h i j (suc (suc (suc (suc (suc (suc (suc (suc zero)))))))) w = h
-ten P a b c d e f g h i j (suc (suc (suc (suc (suc (suc (suc (suc (suc zero))))))))) w = i
-ten P a b c d e f g h i j (suc (suc (suc (suc (suc (suc (suc (suc (suc (suc zero)))))))))) w = j
-ten P a b c d e f g h i j (suc (suc (suc (suc (suc (suc (suc (suc (suc (suc (suc k))))))))))) w = absurd (omega (arith, w .1))
 
 -- ---- 17: the type at a place
 triplets-exactly : (k : ℕ) → (tripletsToo k ≡ true) ↔ TakesTriplets k
@@ -161,14 +148,10 @@ fitting-some l k c n =
     (λ a. absurd (n (rw a refl)))
     (λ a. bool-cases (typeFits k (columnAt l c .kind)) (λ b. (a, b)) (λ b. absurd (n (rw (a, b) refl))))
 
--- the refusal of a row, the finding of a place that is not 0
+-- the refusal of a row that is not 0
 at-row : (g : ℕ → Refusal) (i : ℕ) → 0 < i → atRow g i ≡ g i
 at-row g zero h = absurd (omega arith)
 at-row g (suc i) h = refl
-
-room-at : (rows : List ℕ) (k : ℕ) → 0 < k → roomAt rows k ≡ finding (tableAt k) (refusal 14 (atPlace rows k))
-room-at rows zero h = absurd (omega arith)
-room-at rows (suc k) h = refl
 
 -- what is found, said in other words
 said-as : (a : Finding) (H : Type 0) (F K : Finding → Type 0) → Exactly a H F → ((q : Finding) → (numberOf q ≡ 0 → ⊥) → F q → K q)
@@ -179,24 +162,6 @@ module _ (f : Files) (most : ℕ) where
   abbrev tables : Tables
   tables = tablesOf f most
 
-  -- the table of a name, and what stands at each of the ten places
-  table-in : (n : TableName) → tableIn tables n ≡ tableOf f most n
-  unfolding tablesOf
-  table-in Edg = refl
-  table-in Fac = refl
-  table-in Rng = refl
-  table-in Cnd = refl
-
-  pub column-at-place : (k : ℕ) → In 10 k → atPlace (columnsOf f tables) k ≡ columnFor (fileOf f (tableAt k)) (tableIn tables (tableAt k)) k
-  unfolding columnsFor tableAt
-  column-at-place =
-      ten (λ k. atPlace (columnsOf f tables) k ≡ columnFor (fileOf f (tableAt k)) (tableIn tables (tableAt k)) k)
-      refl refl refl refl refl refl refl refl refl refl
-
-  rows-at-place : (k : ℕ) → In 10 k → atPlace (rowsFor tables) k ≡ tableIn tables (tableAt k) .rows
-  unfolding rowsFor tableAt
-  rows-at-place = ten (λ k. atPlace (rowsFor tables) k ≡ tableIn tables (tableAt k) .rows) refl refl refl refl refl refl refl refl refl refl
-
   -- ---- a table that opens
   module _ (n : TableName) (h : Reading) (m : ℕ) (o : opening.Opens (fileOf f n) (indexOf f n) most h m) where
     abbrev file : List ℕ
@@ -206,7 +171,7 @@ module _ (f : Files) (most : ℕ) where
     index = indexOf f n
 
     pub opened-as : tableIn tables n ≡ record { layout = layoutIn f n; rows = m }
-    opened-as = table-in n ∙ opened-table file index most h m o
+    opened-as = table-in f most n ∙ opened-table file index most h m o
 
     rows-said : rowsOf f n ≡ m
     rows-said = opened-rows file index most h m o
@@ -280,12 +245,19 @@ module _ (f : Files) (most : ℕ) where
     rows-exactly : Exactly (rowsFinding f tables n) (Each (rowsOf f n) (RowRight f n)) (FailsWith f most [] (rows-right n))
     rows-exactly =
         let g = rowJudged file index (layoutIn f n) in
-        let x : (i : ℕ) → In (rowsOf f n) i → (a b : ℕ) → ((g i ≡ refusal a b) × (a ≡ 0 → ⊥)) ↔ table.RowRefused file (layoutIn f n) (rowStart f n i) (rowEnd f n i) i a b =
+        let x : (i : ℕ) → In (rowsOf f n) i → (a b : ℕ)
+        → ((g i ≡ refusal a b) × (a ≡ 0 → ⊥)) ↔ table.RowRefused file (layoutIn f n) (rowStart f n i) (rowEnd f n i) i a b =
         λ i w a b. row-refused-exactly file index most h m o i (w .0, omega (arith, w .1, rows-said)) a b in
         subst (λ (a : Finding). Exactly a (Each (rowsOf f n) (RowRight f n)) (FailsWith f most [] (rows-right n))) (sym rows-as)
         (said-as _ _ _ _ lowest-row
-        (λ q z w. (w .0, w .1, ap (λ (q : Finding). q .table) (w .2), x (w .0) (w .1 .within) (q .refusal .number) (q .refusal .place) .0 (ap (λ (q : Finding). q .refusal) (w .2), z)))
-        (λ q w. let e = x (w .0) (w .1 .within) (q .refusal .number) (q .refusal .place) .1 (w .3) in (w .0, w .1, λ i. record { table = w .2 i; refusal = e .0 i })))
+        (λ q z w. (
+          w .0,
+          w .1,
+          ap (λ (q : Finding). q .table) (w .2),
+          x (w .0) (w .1 .within) (q .refusal .number) (q .refusal .place) .0 (ap (λ (q : Finding). q .refusal) (w .2), z),
+        ))
+        (λ q w. let e = x (w .0) (w .1 .within) (q .refusal .number) (q .refusal .place) .1 (w .3) in
+        (w .0, w .1, λ i. record { table = w .2 i; refusal = e .0 i })))
 
     -- ---- F, or R, zero
     some-exactly : Exactly (emptyFinding n (tableIn tables n .rows)) (0 < rowsOf f n) (IsEmpty f n)
@@ -294,19 +266,22 @@ module _ (f : Files) (most : ℕ) where
         (exactly-empty n (tableIn tables n .rows))
 
   -- ---- opening
-  opening-exactly : (n : TableName) → Exactly (opening f most n) ((h : Reading) × (rows : ℕ) × OpensWith f most n h rows) (FailsWith f most [] (opened n))
+  opening-exactly : (n : TableName) → Exactly (opening f most n)
+      ((h : Reading) × (rows : ℕ) × OpensWith f most n h rows) (FailsWith f most [] (opened n))
   opening-exactly n =
-      exactly-of n (tableRefusal (fileOf f n) (indexOf f n) most) ((h : Reading) × (rows : ℕ) × OpensWith f most n h rows) (opening.RefusedWith (fileOf f n) (indexOf f n) most)
+      exactly-of n (tableRefusal (fileOf f n) (indexOf f n) most)
+      ((h : Reading) × (rows : ℕ) × OpensWith f most n h rows) (opening.RefusedWith (fileOf f n) (indexOf f n) most)
       (opened-exactly (fileOf f n) (indexOf f n) most) (refused-exactly-when (fileOf f n) (indexOf f n) most)
 
   -- ---- all four open
   module _ (opens : (n : TableName) → (h : Reading) × (rows : ℕ) × OpensWith f most n h rows) where
     -- 17, by place
-    place-fits : (k : ℕ) → In 10 k → atPlace (columnsOf f tables) k ≡ fitting (layoutIn f (tableAt k)) k (columnOf (fileOf f (tableAt k)) (nameAt k))
+    place-fits : (k : ℕ) → In 10 k → atPlace (columnsOf f tables) k ≡ fitting (layoutIn f (tableAt k)) k
+        (columnOf (fileOf f (tableAt k)) (nameAt k))
     unfolding columnFor
     place-fits k i =
         let o = opens (tableAt k) in
-        column-at-place k i
+        column-at-place f tables k i
         ∙ ap (λ (t : Table). fitting (t .layout) k (columnOf (fileOf f (tableAt k)) (nameAt k))) (opened-as (tableAt k) (o .0) (o .1) (o .2))
 
     there-exactly : (k : ℕ) → In 10 k → (missing (columnsOf f tables) k ≡ false) ↔ ColumnThere f k
@@ -318,38 +293,50 @@ module _ (f : Files) (most : ℕ) where
         let e = place-fits k i in (
           λ z.
               let d = fits-there n h m o k (λ y. eqb-false (atPlace (columnsOf f tables) k) 0 z (e ∙ y)) in
-              record { reading = h; header = o .header; column = columnOf (fileOf f n) (nameAt k); within = d .0 .0; named = d .0 .1; type = d .1 },
+              record {
+                reading = h;
+                header = o .header;
+                column = columnOf (fileOf f n)
+                    (nameAt k);
+                within = d .0 .0;
+                named = d .0 .1;
+                type = d .1;
+              },
           λ w.
               let q = accepted-once (fileOf f n) (w .reading) h (w .header) (o .header) in
-              let d = subst (λ (x : Reading). Named x (nameAt k) (w .column) × TypeRight k (read.columnAt x (w .column))) q ((w .within, w .named), w .type) in
+              let d = subst (λ (x : Reading). Named x (nameAt k) (w .column)
+              × TypeRight k (read.columnAt x (w .column))) q ((w .within, w .named), w .type) in
               let p = there-fits n h m o k (w .column) (d .0) (d .1) in
               ne-eqb (atPlace (columnsOf f tables) k) 0 (λ z. omega (arith, w .within .0, e, p)),
         )
 
     -- a column that is there is that of the name
     pub place-found : (k : ℕ) → In 10 k → ColumnThere f k
-        → (atPlace (columnsOf f tables) k ≡ columnOf (fileOf f (tableAt k)) (nameAt k)) × In (layoutIn f (tableAt k) .columns) (columnOf (fileOf f (tableAt k)) (nameAt k))
+        → (atPlace (columnsOf f tables) k ≡ columnOf (fileOf f (tableAt k)) (nameAt k))
+        × In (layoutIn f (tableAt k) .columns) (columnOf (fileOf f (tableAt k)) (nameAt k))
     place-found k i w =
         let n = tableAt k in
         let h = opens n .0 in
         let o = opens n .2 in
         let e = place-fits k i in
         let z = eqb-false (atPlace (columnsOf f tables) k) 0 (there-exactly k i .1 w) in
-        let d = fits-there n h (opens n .1) o k (λ y. z (e ∙ y)) in
-        (e ∙ there-fits n h (opens n .1) o k (columnOf (fileOf f n) (nameAt k)) (d .0) (d .1), in-layout (fileOf f n) h (o .header) (columnOf (fileOf f n) (nameAt k)) (d .0 .0))
+        let d = fits-there n h (opens n .1) o k (λ y. z (e ∙ y)) in (
+          e ∙ there-fits n h (opens n .1) o k (columnOf (fileOf f n) (nameAt k)) (d .0) (d .1),
+          in-layout (fileOf f n) h (o .header) (columnOf (fileOf f n) (nameAt k)) (d .0 .0),
+        )
 
     columns-exactly : Exactly (columnFinding (columnsOf f tables)) (Each 10 (ColumnThere f)) (FailsWith f most [] columns-there)
     unfolding columnFinding
     columns-exactly =
         let p = lowest (missing (columnsOf f tables)) 10 in
-        exactly-lowest (ColumnThere f) 10 (missing (columnsOf f tables)) there-exactly (columnFinding (columnsOf f tables)) (λ k. finding (tableAt k) (refusal 17 k))
-        (λ e. ap (λ (r : Refusal). r .number) (located-zero 17 p e))
-        (λ u. ap (finding (tableAt p)) (located-at 17 p (λ e. omega arith)))
+        exactly-lowest (ColumnThere f) 10 (missing (columnsOf f tables)) there-exactly (columnFinding (columnsOf f tables)) columnWrong
+        (λ e. ap (λ (k : ℕ). numberOf (foundAt columnWrong k)) e)
+        (λ u. found-there columnWrong p (λ e. omega arith))
         (λ k i e z. omega (arith, z))
 
     -- 14, by place
     rows-for : (k : ℕ) → In 10 k → atPlace (rowsFor tables) k ≡ rowsOf f (tableAt k)
-    rows-for k i = let o = opens (tableAt k) in rows-at-place k i ∙ said-rows (tableAt k) (o .0) (o .1) (o .2)
+    rows-for k i = let o = opens (tableAt k) in rows-at-place tables k i ∙ said-rows (tableAt k) (o .0) (o .1) (o .2)
 
     module _ (lengths : List ℕ) where
       room-told : (k : ℕ) → In 10 k → (tooShort lengths (rowsFor tables) k ≡ false) ↔ RoomFor f lengths k
@@ -361,15 +348,16 @@ module _ (f : Files) (most : ℕ) where
           let p = lowest (tooShort lengths (rowsFor tables)) 10 in
           exactly-lowest (RoomFor f lengths) 10 (tooShort lengths (rowsFor tables)) room-told (roomFinding lengths (rowsFor tables))
           (λ k. finding (tableAt k) (refusal 14 (rowsOf f (tableAt k))))
-          (λ e. ap (λ (k : ℕ). numberOf (roomAt (rowsFor tables) k)) e)
+          (λ e. ap (λ (k : ℕ). numberOf (foundAt (roomNeeded (rowsFor tables)) k)) e)
           (λ u.
-          room-at (rowsFor tables) p u
+          found-there (roomNeeded (rowsFor tables)) p (λ e. omega arith)
           ∙ ap (λ (r : ℕ). finding (tableAt p) (refusal 14 r)) (rows-for p (u, lowest-le (tooShort lengths (rowsFor tables)) 10)))
           (λ k i e z. omega (arith, z))
 
   -- ---- in order
   module _ (lengths : List ℕ) where
-    all-open : (k : ℕ) → 4 ≤ k → ((x : Test) → rank x < k → Holds f most lengths x) → (n : TableName) → (h : Reading) × (rows : ℕ) × OpensWith f most n h rows
+    all-open : (k : ℕ) → 4 ≤ k → ((x : Test) → rank x < k → Holds f most lengths x) → (n : TableName)
+        → (h : Reading) × (rows : ℕ) × OpensWith f most n h rows
     all-open k a e n = e (opened n) (omega (arith, turn-below n))
 
     in-order : InOrder Test rank apart (Holds f most lengths) (FailsWith f most lengths) (tests f most lengths) 0
@@ -411,7 +399,8 @@ module _ (f : Files) (most : ℕ) where
     -- NOTHING IS FOUND EXACTLY WHERE ALL TESTS HOLD
     pub all-hold-exactly : (numberOf (loadFinding f most lengths) ≡ 0) ↔ ((x : Test) → Holds f most lengths x)
     unfolding loadFinding
-    all-hold-exactly = nothing-exactly Test rank apart (Holds f most lengths) (FailsWith f most lengths) (tests f most lengths) in-order rank-below
+    all-hold-exactly = nothing-exactly Test rank apart (Holds f most lengths) (FailsWith f most lengths)
+        (tests f most lengths) in-order rank-below
 
     finding-exactly : (q : Finding) → ((loadFinding f most lengths ≡ q) × (numberOf q ≡ 0 → ⊥)) ↔ RefusedWith f most lengths q
     unfolding loadFinding

@@ -16,7 +16,9 @@ use Rattle.opening.specs.declared.Opened.{Opened}
 use Rattle.load.specs.declared.TableName.the-variants.{Edg, Fac, Rng, Cnd}
 use Rattle.load.specs.declared.Finding.{Finding}
 use Rattle.load.specs.Sources.{Files, tablesOf}
-use Rattle.load.specs.Load.{finding, noFinding, firstFound, firstFinding, refusalOf, openingTests, openedAll}
+use Rattle.load.specs.Serving.Named.{namesOf}
+use Rattle.load.specs.Load.{finding, firstFinding, openingTests}
+use Rattle.load.specs.Serving.Stages.{refusalOf, openedAll}
 
 -- tests that refuse nothing come to nothing
 nothing-refused : (l : List Refusal) → firstOf l .number ≡ 0 → fine ≡ firstOf l
@@ -40,12 +42,17 @@ module _ (f : Files) (most : ℕ) (e g h k : Opened) (pe : e ≡ openedOf (f .ed
   said o file index p = ap (λ (o : Opened). refusalOf (o .answer)) p ∙ refused-as file index most
 
   pub all-opened : (q : Finding)
-      → q ≡ firstFound (finding Edg (refusalOf (e .answer))) (firstFound (finding Fac (refusalOf (g .answer)))
-      (firstFound (finding Rng (refusalOf (h .answer))) (firstFound (finding Cnd (refusalOf (k .answer))) noFinding)))
-      → record { finding = q; tables = record { edg = e .table; fac = g .table; rng = h .table; cnd = k .table } } ≡ openedAll f most
-  unfolding openedAll tablesOf
+      → q ≡ firstFinding (finding Edg (refusalOf (e .answer)) ∷ finding Fac (refusalOf (g .answer)) ∷ finding Rng (refusalOf (h .answer))
+      ∷ finding Cnd (refusalOf (k .answer)) ∷ [])
+      → record {
+        finding = q;
+        tables = record { edg = e .table; fac = g .table; rng = h .table; cnd = k .table };
+        names = record { edg = e .names; fac = g .names; rng = h .names; cnd = k .names };
+      } ≡ openedAll f most
+  unfolding openedAll tablesOf namesOf
   all-opened q p =
-      let t : q ≡ firstFinding (openingTests f most) = p ∙ rw (said e (f .edg) (f .edx) pe, said g (f .fac) (f .fax) pg, said h (f .rng) (f .rnx) ph, said k (f .cnd) (f .cnx) pk) refl in
+      let t : q ≡ firstFinding (openingTests f most) = p
+      ∙ rw (said e (f .edg) (f .edx) pe, said g (f .fac) (f .fax) pg, said h (f .rng) (f .rnx) ph, said k (f .cnd) (f .cnx) pk) refl in
       λ i. record {
         finding = t i;
         tables = record {
@@ -53,5 +60,11 @@ module _ (f : Files) (most : ℕ) (e g h k : Opened) (pe : e ≡ openedOf (f .ed
           fac = ap (λ (o : Opened). o .table) pg i;
           rng = ap (λ (o : Opened). o .table) ph i;
           cnd = ap (λ (o : Opened). o .table) pk i;
+        };
+        names = record {
+          edg = ap (λ (o : Opened). o .names) pe i;
+          fac = ap (λ (o : Opened). o .names) pg i;
+          rng = ap (λ (o : Opened). o .names) ph i;
+          cnd = ap (λ (o : Opened). o .names) pk i;
         };
       }

@@ -1,27 +1,26 @@
 -- What all tests found, and what follows for the writing.
 --
--- The plan. The first of two findings is associative (`found-joined`), so the first of the whole list is the first of three parts: the
--- openings, what fits (17, 15, 14), the rows (`load-in-three`). `judge` goes by these: `found-early` where the first two parts found
--- something, `found-late` where the rows decide. Of what was judged, a finding is the answer (`load-refused`). Where nothing was found the
--- answer is the counts (`load-tile`), and `both-found` takes the parts apart into what the writing needs: each of the ten columns is there
--- (`edge-columns`, `column-7` to `column-10`), each lent column has room (`room`), no table has over 1,000,000 rows (`few-judged`), and all
--- rows are accepted (`rows-judged-edg` to `rows-judged-cnd`). What is written over the judged tables is what the definition has
--- (`written`).
+-- The plan. The first of two findings is associative (`found-joined`), so the first of the whole list is that of the openings, else of what
+-- fits (17, 15, 14), else of the rows (`load-in-three`). `judge` goes by these (`found-opening`, `found-fit`, `found-rows`). Of what was
+-- judged, a finding is the answer (`load-refused`). Where nothing was found the answer is the counts (`load-tile`), and `both-found` takes
+-- the parts apart into what the writing needs (`writable`): no table has over 1,000,000 rows, all rows are accepted, each of the ten columns
+-- is there, each lent column has room. What is written over the judged tables is what the definition has (`written`).
 use mathlib.Core.Path.{_≡_, refl, sym, ap, subst, _∙_}
 use mathlib.Core.Bool.{false}
 use mathlib.Core.List.{List, [], _∷_, _++_}
 use Prim.Native.Nat.{ℕ, zero, suc, _≤_, _<_}
 use native.Mathlib.Omega.{arith}
-use borrow.Author.Tests.{eq-eqb, ne-eqb, eqb-true, eqb-false, ltb-false}
+use borrow.Author.Tests.{eq-eqb, ne-eqb, eqb-true, eqb-false, ltb-false, le-leb}
 use lib.Dec.{eqb}
-use Rattle.laws.specs.Lowest.{None}
+use Rattle.laws.specs.Lowest.{None, In}
 use Rattle.laws.specs.Buffer.{front}
 use Rattle.laws.proofs.LowestLaws.{bool-cases, lowest-zero}
 use Rattle.refusal.specs.Order.{refuses}
-use Rattle.refusal.proofs.OrderLaws.{located-passes, all-passed}
+use Rattle.refusal.proofs.OrderLaws.{all-passed}
 use Rattle.header.specs.declared.Layout.{Layout}
 use Rattle.opening.specs.declared.Table.{Table}
-use Rattle.opening.specs.Opening.{mostRows, tableRefusal, openedOf}
+use Rattle.limits.specs.Limits.{mostRows}
+use Rattle.opening.specs.Opening.{tableRefusal, openedOf}
 use Rattle.table.specs.Rows.{rowsOf, columnAt, noSuchColumn, rowJudged, rowsRefusal}
 use Rattle.opening.proofs.OpenedExactly.{opened-exactly, opened-table}
 use Rattle.load.specs.declared.TableName.{TableName}
@@ -31,11 +30,15 @@ use Rattle.load.specs.declared.Finding.{Finding}
 use Rattle.load.specs.declared.OpenedTables.{OpenedTables}
 use Rattle.load.specs.declared.Judged.{Judged}
 use Rattle.load.specs.declared.Loaded.the-variants.{Tile, Refused}
-use Rattle.load.specs.Sources.{Files, fileOf, indexOf, tableIn, tablesOf, typeFits, fitting, columnFor, columnsFor, atPlace, rowsFor}
+use Rattle.load.specs.Sources.{Files, fileOf, indexOf, tableIn, tableOf, tablesOf, tableAt, typeFits, fitting, columnFor, columnsOf}
+use Rattle.load.specs.Sources.{atPlace, rowsFor}
+use Rattle.load.specs.Serving.Named.{columnsBy}
 use Rattle.load.specs.Cells.{cellOf, EdgeColumns}
-use Rattle.load.specs.Load.{finding, noFinding, firstFound, firstFinding, openingTests, missing, columnFinding, emptyFinding, tooShort}
-use Rattle.load.specs.Load.{roomAt, roomFinding, fitTests, RowsJudged, FewRows, rowTests, columnsOf, openedAll, fitFinding}
-use Rattle.load.specs.Load.{allRowsFinding, loadFinding, judgedOf, counts, loadOf, cellsOf}
+use Rattle.load.specs.Load.{noFinding, firstFound, firstFinding, foundAt, openingTests, missing, columnWrong, columnFinding, emptyFinding, tooShort}
+use Rattle.load.specs.Load.{roomNeeded, roomFinding, fitTests, RowsJudged, rowsFinding, rowTests}
+use Rattle.load.specs.Load.{loadFinding, counts, loadOf, cellsOf}
+use Rattle.load.specs.Serving.Stages.{openedAll, fitFinding, allRowsFinding, judgedOf}
+use Rattle.load.proofs.NamedLaws.{columns-found}
 
 -- ---- the first of two, of three, of lists
 
@@ -59,7 +62,8 @@ both-found a b h =
 found-joined : (a b c : Finding) → firstFound (firstFound a b) c ≡ firstFound a (firstFound b c)
 found-joined a b c =
     bool-cases (eqb (numberOf a) 0)
-    (λ t. let z = eqb-true (numberOf a) 0 t in ap (λ (x : Finding). firstFound x c) (found-passes a b z) ∙ sym (found-passes a (firstFound b c) z))
+    (λ t. let z = eqb-true (numberOf a) 0 t in ap (λ (x : Finding). firstFound x c) (found-passes a b z)
+    ∙ sym (found-passes a (firstFound b c) z))
     (λ t.
     let n = eqb-false (numberOf a) 0 t in
     ap (λ (x : Finding). firstFound x c) (found-stops a b n) ∙ found-stops a c n ∙ sym (found-stops a (firstFound b c) n))
@@ -78,48 +82,59 @@ module _ (f : Files) (most : ℕ) (lengths : List ℕ) where
   columns = columnsOf f tables
 
   load-in-three : loadFinding f most lengths
-      ≡ firstFound (firstFound (firstFinding (openingTests f most)) (fitFinding tables columns lengths)) (allRowsFinding f tables)
+      ≡ firstFound (firstFinding (openingTests f most)) (firstFound (fitFinding tables columns lengths) (allRowsFinding f tables))
   unfolding loadFinding fitFinding allRowsFinding
   load-in-three =
       found-append (openingTests f most) (fitTests tables columns lengths ++ rowTests f tables)
       ∙ ap (firstFound (firstFinding (openingTests f most))) (found-append (fitTests tables columns lengths) (rowTests f tables))
-      ∙ sym (found-joined (firstFinding (openingTests f most)) (firstFinding (fitTests tables columns lengths)) (firstFinding (rowTests f tables)))
 
-  -- the tests before the rows, as `judge` runs them
-  module _ (o : OpenedTables) (po : o ≡ openedAll f most) (k : List ℕ) (pk : k ≡ columnsFor (f .edg) (f .fac) (f .rng) (f .cnd) (o .tables)) where
+  -- as `judge` runs them
+  module _ (o : OpenedTables) (po : o ≡ openedAll f most) (k : List ℕ)
+      (pk : k ≡ columnsBy (f .edg) (f .fac) (f .rng) (f .cnd) (o .tables) (o .names)) where
     same-tables : o .tables ≡ tables
     unfolding openedAll
     same-tables = ap (λ (o : OpenedTables). o .tables) po
 
     same-columns : k ≡ columns
-    same-columns = pk ∙ ap (λ (t : Tables). columnsFor (f .edg) (f .fac) (f .rng) (f .cnd) t) same-tables
+    unfolding openedAll
+    same-columns = pk ∙ ap (λ (o : OpenedTables). columnsBy (f .edg) (f .fac) (f .rng) (f .cnd) (o .tables) (o .names)) po ∙ columns-found f most
 
-    judged-as : (q : Finding) → q ≡ loadFinding f most lengths → record { finding = q; tables = o .tables; columns = k } ≡ judgedOf f most lengths
+    judged-as : (q : Finding) → q ≡ loadFinding f most lengths
+        → record { finding = q; tables = o .tables; columns = k } ≡ judgedOf f most lengths
     unfolding judgedOf
     judged-as q p = λ i. record { finding = p i; tables = same-tables i; columns = same-columns i }
 
-    module _ (fit early : Finding) (pf : fit ≡ fitFinding (o .tables) k lengths) (pe : early ≡ firstFound (o .finding) fit) where
-      same-early : early ≡ firstFound (firstFinding (openingTests f most)) (fitFinding tables columns lengths)
-      unfolding openedAll
-      same-early =
-          pe ∙ ap (λ (a : Finding). firstFound a fit) (ap (λ (o : OpenedTables). o .finding) po)
-          ∙ ap (firstFound (firstFinding (openingTests f most)))
-          (pf ∙ ap (λ (t : Tables). fitFinding t k lengths) same-tables ∙ ap (λ (k : List ℕ). fitFinding tables k lengths) same-columns)
+    opening-first : loadFinding f most lengths ≡ firstFound (o .finding)
+        (firstFound (fitFinding tables columns lengths) (allRowsFinding f tables))
+    unfolding openedAll
+    opening-first =
+        load-in-three
+        ∙ ap (λ (a : Finding). firstFound a (firstFound (fitFinding tables columns lengths) (allRowsFinding f tables)))
+        (sym (ap (λ (o : OpenedTables). o .finding) po))
 
-      pub found-early : (numberOf early ≡ 0 → ⊥) → record { finding = early; tables = o .tables; columns = k } ≡ judgedOf f most lengths
-      found-early n =
-          judged-as early (sym (found-stops early (allRowsFinding f tables) n) ∙ ap (λ (a : Finding). firstFound a (allRowsFinding f tables)) same-early ∙ sym load-in-three)
+    pub found-opening : (numberOf (o .finding) ≡ 0 → ⊥)
+        → record { finding = o .finding; tables = o .tables; columns = k } ≡ judgedOf f most lengths
+    found-opening n = judged-as (o .finding) (sym (opening-first ∙ found-stops (o .finding) _ n))
 
-      pub found-late : numberOf early ≡ 0 → (late : Finding) → late ≡ allRowsFinding f (o .tables)
+    module _ (z : numberOf (o .finding) ≡ 0) (fit : Finding) (pf : fit ≡ fitFinding (o .tables) k lengths) where
+      same-fit : fit ≡ fitFinding tables columns lengths
+      same-fit = pf ∙ ap (λ (t : Tables). fitFinding t k lengths) same-tables ∙ ap (λ (k : List ℕ). fitFinding tables k lengths) same-columns
+
+      fit-next : loadFinding f most lengths ≡ firstFound fit (allRowsFinding f tables)
+      fit-next =
+          opening-first ∙ found-passes (o .finding) _ z ∙ ap (λ (a : Finding). firstFound a (allRowsFinding f tables)) (sym same-fit)
+
+      pub found-fit : (numberOf fit ≡ 0 → ⊥) → record { finding = fit; tables = o .tables; columns = k } ≡ judgedOf f most lengths
+      found-fit n = judged-as fit (sym (fit-next ∙ found-stops fit _ n))
+
+      pub found-rows : numberOf fit ≡ 0 → (late : Finding) → late ≡ allRowsFinding f (o .tables)
           → record { finding = late; tables = o .tables; columns = k } ≡ judgedOf f most lengths
-      found-late z late p =
-          judged-as late
-          (p ∙ ap (allRowsFinding f) same-tables ∙ sym (found-passes early (allRowsFinding f tables) z)
-          ∙ ap (λ (a : Finding). firstFound a (allRowsFinding f tables)) same-early ∙ sym load-in-three)
+      found-rows y late p = judged-as late (p ∙ ap (allRowsFinding f) same-tables ∙ sym (fit-next ∙ found-passes fit _ y))
 
 -- ---- no opened table has over 1,000,000 rows
 
-few-refused : (file index : List ℕ) (most : ℕ) → eqb (tableRefusal file index most .number) 0 ≡ false → openedOf file index most .table .rows ≤ mostRows
+few-refused : (file index : List ℕ) (most : ℕ) → eqb (tableRefusal file index most .number) 0 ≡ false
+    → openedOf file index most .table .rows ≤ mostRows
 unfolding openedOf
 few-refused file index most b = rw b (omega arith)
 
@@ -139,10 +154,40 @@ all-judged file index t h e =
     let q : rowsOf t ≡ t .rows = omega arith in
     subst (λ (n : ℕ). None (refuses (rowJudged file index (t .layout))) n) q (all-passed (rowJudged file index (t .layout)) (rowsOf t) e)
 
-pub few-rows : (f : Files) (most : ℕ) (t : Tables) → t ≡ tablesOf f most → FewRows t
+-- ---- by the tables' names, and by the ten places
+
+pub table-in : (f : Files) (most : ℕ) (n : TableName) → tableIn (tablesOf f most) n ≡ tableOf f most n
 unfolding tablesOf
-few-rows f most t e =
-    rw e (few (f .edg) (f .edx) most, few (f .fac) (f .fax) most, few (f .rng) (f .rnx) most, few (f .cnd) (f .cnx) most)
+table-in f most Edg = refl
+table-in f most Fac = refl
+table-in f most Rng = refl
+table-in f most Cnd = refl
+
+-- what holds of one of ten
+ten : (P : ℕ → Type 0) → P 1 → P 2 → P 3 → P 4 → P 5 → P 6 → P 7 → P 8 → P 9 → P 10 → (k : ℕ) → In 10 k → P k
+ten P a b c d e f g h i j zero w = absurd (omega (arith, w .0))
+ten P a b c d e f g h i j (suc zero) w = a
+ten P a b c d e f g h i j (suc (suc zero)) w = b
+ten P a b c d e f g h i j (suc (suc (suc zero))) w = c
+ten P a b c d e f g h i j (suc (suc (suc (suc zero)))) w = d
+ten P a b c d e f g h i j (suc (suc (suc (suc (suc zero))))) w = e
+ten P a b c d e f g h i j (suc (suc (suc (suc (suc (suc zero)))))) w = f
+ten P a b c d e f g h i j (suc (suc (suc (suc (suc (suc (suc zero))))))) w = g
+ten P a b c d e f g h i j (suc (suc (suc (suc (suc (suc (suc (suc zero)))))))) w = h
+ten P a b c d e f g h i j (suc (suc (suc (suc (suc (suc (suc (suc (suc zero))))))))) w = i
+ten P a b c d e f g h i j (suc (suc (suc (suc (suc (suc (suc (suc (suc (suc zero)))))))))) w = j
+ten P a b c d e f g h i j (suc (suc (suc (suc (suc (suc (suc (suc (suc (suc (suc k))))))))))) w = absurd (omega (arith, w .1))
+
+pub column-at-place : (f : Files) (t : Tables) (k : ℕ) → In 10 k
+    → atPlace (columnsOf f t) k ≡ columnFor (fileOf f (tableAt k)) (tableIn t (tableAt k)) k
+unfolding columnsOf tableAt
+column-at-place f t =
+    ten (λ k. atPlace (columnsOf f t) k ≡ columnFor (fileOf f (tableAt k)) (tableIn t (tableAt k)) k)
+    refl refl refl refl refl refl refl refl refl refl
+
+pub rows-at-place : (t : Tables) (k : ℕ) → In 10 k → atPlace (rowsFor t) k ≡ tableIn t (tableAt k) .rows
+unfolding rowsFor tableAt
+rows-at-place t = ten (λ k. atPlace (rowsFor t) k ≡ tableIn t (tableAt k) .rows) refl refl refl refl refl refl refl refl refl refl
 
 -- ---- nothing found: every test is passed
 
@@ -161,20 +206,27 @@ found-column : (file : List ℕ) (t : Table) (k : ℕ) → (columnFor file t k �
 unfolding columnFor
 found-column file t k n = fitting-there (t .layout) k _ n
 
-room-passes : (rows : List ℕ) (k : ℕ) → numberOf (roomAt rows k) ≡ 0 → k ≡ 0
-room-passes rows zero z = refl
-room-passes rows (suc k) z = absurd (omega (arith, z))
+-- a test by place that finds nothing fails at none
+nowhere : (g : ℕ → Finding) → ((k : ℕ) → numberOf (g k) ≡ 0 → ⊥) → (k : ℕ) → numberOf (foundAt g k) ≡ 0 → k ≡ 0
+nowhere g refuses zero z = refl
+nowhere g refuses (suc k) z = absurd (refuses (suc k) z)
 
--- what holds of one of six
-six : (P : ℕ → Type 0) → P 1 → P 2 → P 3 → P 4 → P 5 → P 6 → (k : ℕ) → 0 < k → k ≤ 6 → P k
-six P a b c d e f zero z h = absurd (omega arith)
-six P a b c d e f (suc zero) z h = a
-six P a b c d e f (suc (suc zero)) z h = b
-six P a b c d e f (suc (suc (suc zero))) z h = c
-six P a b c d e f (suc (suc (suc (suc zero)))) z h = d
-six P a b c d e f (suc (suc (suc (suc (suc zero))))) z h = e
-six P a b c d e f (suc (suc (suc (suc (suc (suc zero)))))) z h = f
-six P a b c d e f (suc (suc (suc (suc (suc (suc (suc k))))))) z h = absurd (omega arith)
+-- what the writing needs of what was judged
+pub record Writable (f : Files) (lengths : List ℕ) (j : Judged) : Type 0 where
+  pub few : (n : TableName) → tableIn (j .tables) n .rows ≤ mostRows
+  pub judged : (n : TableName) → RowsJudged (fileOf f n) (indexOf f n) (tableIn (j .tables) n)
+  pub there : (k : ℕ) → In 10 k → noSuchColumn (tableIn (j .tables) (tableAt k) .layout) (atPlace (j .columns) k) ≡ false
+  pub room : (k : ℕ) → In 10 k → tableIn (j .tables) (tableAt k) .rows ≤ atPlace lengths k
+
+-- the first six places are those of edges
+edge-place : (k : ℕ) → k ≤ 6 → tableAt k ≡ Edg
+unfolding tableAt
+edge-place k h = rw (le-leb k 6 h) refl
+
+pub edge-columns : (f : Files) (lengths : List ℕ) (j : Judged) → Writable f lengths j → EdgeColumns (j .tables .edg .layout) (j .columns)
+edge-columns f lengths j w k a b =
+    subst (λ (n : TableName). noSuchColumn (tableIn (j .tables) n .layout) (atPlace (j .columns) k) ≡ false) (edge-place k b)
+    (w .there k (a, omega arith))
 
 module _ (f : Files) (most : ℕ) (lengths : List ℕ) (j : Judged) (p : j ≡ judgedOf f most lengths) where
   same-finding : j .finding ≡ loadFinding f most lengths
@@ -210,61 +262,37 @@ module _ (f : Files) (most : ℕ) (lengths : List ℕ) (j : Judged) (p : j ≡ j
     unfolding cellsOf
     written n k d e h =
         h
-        ∙ ap (λ (t : Tables). front (cellOf (fileOf f n) (indexOf f n) (tableIn t n .layout) (atPlace (j .columns) k)) (tableIn t n .rows) d) same-tables-judged
-        ∙ ap (λ (c : List ℕ). front (cellOf (fileOf f n) (indexOf f n) (tableIn (tablesOf f most) n .layout) (atPlace c k)) (tableIn (tablesOf f most) n .rows) d)
+        ∙ ap (λ (t : Tables). front (cellOf (fileOf f n) (indexOf f n) (tableIn t n .layout) (atPlace (j .columns) k))
+        (tableIn t n .rows) d) same-tables-judged
+        ∙ ap (λ (c : List ℕ). front (cellOf (fileOf f n) (indexOf f n) (tableIn (tablesOf f most) n .layout)
+        (atPlace c k)) (tableIn (tablesOf f most) n .rows) d)
         same-columns-judged
 
-    passed : numberOf (firstFound (firstFound (firstFinding (openingTests f most)) (fitFinding (j .tables) (j .columns) lengths)) (allRowsFinding f (j .tables))) ≡ 0
+    passed : numberOf (firstFound (firstFinding (openingTests f most))
+        (firstFound (fitFinding (j .tables) (j .columns) lengths) (allRowsFinding f (j .tables)))) ≡ 0
     passed = rw (same-columns-judged, same-tables-judged) (ap numberOf (sym (load-in-three f most lengths) ∙ sym same-finding) ∙ z)
 
     fit-passed : numberOf (fitFinding (j .tables) (j .columns) lengths) ≡ 0
-    fit-passed = both-found _ _ (both-found _ _ passed .0) .1
+    fit-passed = both-found _ _ (both-found _ _ passed .1) .0
 
     rows-passed : numberOf (allRowsFinding f (j .tables)) ≡ 0
-    rows-passed = both-found _ _ passed .1
+    rows-passed = both-found _ _ (both-found _ _ passed .1) .1
 
     -- each of the ten columns is there
     none-missing : None (missing (j .columns)) 10
     unfolding fitFinding columnFinding
     none-missing =
         let h = both-found (columnFinding (j .columns)) _ fit-passed .0 in
-        lowest-zero (missing (j .columns)) 10 (located-passes 17 _ (λ e. omega (arith, e)) h)
+        lowest-zero (missing (j .columns)) 10 (nowhere columnWrong (λ k e. omega (arith, e)) _ h)
 
-    is-there : (k : ℕ) → 0 < k → k ≤ 10 → atPlace (j .columns) k ≡ 0 → ⊥
-    is-there k a b = eqb-false (atPlace (j .columns) k) 0 (none-missing .fails k a b)
-
-    in-table : (n : TableName) (k : ℕ) → 0 < k → k ≤ 10 → atPlace (columnsOf f (tablesOf f most)) k ≡ columnFor (fileOf f n) (tableIn (tablesOf f most) n) k
-        → noSuchColumn (tableIn (j .tables) n .layout) (atPlace (j .columns) k) ≡ false
-    in-table n k a b e =
-        let q : atPlace (j .columns) k ≡ columnFor (fileOf f n) (tableIn (tablesOf f most) n) k = ap (λ (c : List ℕ). atPlace c k) same-columns-judged ∙ e in
-        rw (same-tables-judged, q) (found-column (fileOf f n) (tableIn (tablesOf f most) n) k (λ w. is-there k a b (q ∙ w)))
-
-    pub edge-columns : EdgeColumns (j .tables .edg .layout) (j .columns)
-    unfolding columnsFor
-    edge-columns =
-        six (λ k. noSuchColumn (j .tables .edg .layout) (atPlace (j .columns) k) ≡ false)
-        (in-table Edg 1 (omega arith) (omega arith) refl)
-        (in-table Edg 2 (omega arith) (omega arith) refl)
-        (in-table Edg 3 (omega arith) (omega arith) refl)
-        (in-table Edg 4 (omega arith) (omega arith) refl)
-        (in-table Edg 5 (omega arith) (omega arith) refl)
-        (in-table Edg 6 (omega arith) (omega arith) refl)
-
-    pub column-7 : noSuchColumn (j .tables .fac .layout) (atPlace (j .columns) 7) ≡ false
-    unfolding columnsFor
-    column-7 = in-table Fac 7 (omega arith) (omega arith) refl
-
-    pub column-8 : noSuchColumn (j .tables .rng .layout) (atPlace (j .columns) 8) ≡ false
-    unfolding columnsFor
-    column-8 = in-table Rng 8 (omega arith) (omega arith) refl
-
-    pub column-9 : noSuchColumn (j .tables .rng .layout) (atPlace (j .columns) 9) ≡ false
-    unfolding columnsFor
-    column-9 = in-table Rng 9 (omega arith) (omega arith) refl
-
-    pub column-10 : noSuchColumn (j .tables .cnd .layout) (atPlace (j .columns) 10) ≡ false
-    unfolding columnsFor
-    column-10 = in-table Cnd 10 (omega arith) (omega arith) refl
+    found-there : (k : ℕ) → In 10 k → noSuchColumn (tableIn (j .tables) (tableAt k) .layout) (atPlace (j .columns) k) ≡ false
+    found-there k i =
+        let file = fileOf f (tableAt k) in
+        let table = tableIn (tablesOf f most) (tableAt k) in
+        let q : atPlace (j .columns) k ≡ columnFor file table k = ap (λ (c : List ℕ). atPlace c k) same-columns-judged
+        ∙ column-at-place f (tablesOf f most) k i in
+        let some = eqb-false (atPlace (j .columns) k) 0 (none-missing .fails k (i .0) (i .1)) in
+        rw (same-tables-judged, q) (found-column file table k (λ w. some (q ∙ w)))
 
     -- each lent column has room
     none-short : None (tooShort lengths (rowsFor (j .tables))) 10
@@ -274,27 +302,26 @@ module _ (f : Files) (most : ℕ) (lengths : List ℕ) (j : Judged) (p : j ≡ j
         let b = both-found (emptyFinding Fac (j .tables .fac .rows)) _ a .1 in
         let c = both-found (emptyFinding Rng (j .tables .rng .rows)) _ b .1 in
         let d = both-found (roomFinding lengths (rowsFor (j .tables))) noFinding c .0 in
-        lowest-zero _ 10 (room-passes (rowsFor (j .tables)) _ d)
-
-    pub room : (k : ℕ) → 0 < k → k ≤ 10 → atPlace (rowsFor (j .tables)) k ≤ atPlace lengths k
-    room k a b = ltb-false (atPlace lengths k) (atPlace (rowsFor (j .tables)) k) (none-short .fails k a b)
-
-    pub few-judged : FewRows (j .tables)
-    few-judged = few-rows f most (j .tables) same-tables-judged
+        lowest-zero _ 10 (nowhere (roomNeeded (rowsFor (j .tables))) (λ k e. omega (arith, e)) _ d)
 
     -- every row is accepted
-    pub rows-judged-edg : RowsJudged (f .edg) (f .edx) (j .tables .edg)
-    unfolding allRowsFinding
-    rows-judged-edg = all-judged _ _ (j .tables .edg) (few-judged .0) (both-found _ _ rows-passed .0)
+    few-judged : (n : TableName) → tableIn (j .tables) n .rows ≤ mostRows
+    few-judged n = rw (same-tables-judged, table-in f most n) (few (fileOf f n) (indexOf f n) most)
 
-    pub rows-judged-fac : RowsJudged (f .fac) (f .fax) (j .tables .fac)
+    row-passed : (n : TableName) → numberOf (rowsFinding f (j .tables) n) ≡ 0
     unfolding allRowsFinding
-    rows-judged-fac = all-judged _ _ (j .tables .fac) (few-judged .1) (both-found _ _ (both-found _ _ rows-passed .1) .0)
+    row-passed Edg = both-found _ _ rows-passed .0
+    row-passed Fac = both-found _ _ (both-found _ _ rows-passed .1) .0
+    row-passed Rng = both-found _ _ (both-found _ _ (both-found _ _ rows-passed .1) .1) .0
+    row-passed Cnd = both-found _ _ (both-found _ _ (both-found _ _ (both-found _ _ rows-passed .1) .1) .1) .0
 
-    pub rows-judged-rng : RowsJudged (f .rng) (f .rnx) (j .tables .rng)
-    unfolding allRowsFinding
-    rows-judged-rng = all-judged _ _ (j .tables .rng) (few-judged .2) (both-found _ _ (both-found _ _ (both-found _ _ rows-passed .1) .1) .0)
-
-    pub rows-judged-cnd : RowsJudged (f .cnd) (f .cnx) (j .tables .cnd)
-    unfolding allRowsFinding
-    rows-judged-cnd = all-judged _ _ (j .tables .cnd) (few-judged .3) (both-found _ _ (both-found _ _ (both-found _ _ (both-found _ _ rows-passed .1) .1) .1) .0)
+    pub writable : Writable f lengths j
+    writable =
+        record {
+          few = few-judged;
+          judged = λ n. all-judged (fileOf f n) (indexOf f n) (tableIn (j .tables) n) (few-judged n) (row-passed n);
+          there = found-there;
+          room = λ k i.
+              subst (λ (r : ℕ). r ≤ atPlace lengths k) (rows-at-place (j .tables) k i)
+              (ltb-false (atPlace lengths k) (atPlace (rowsFor (j .tables)) k) (none-short .fails k (i .0) (i .1)));
+        }

@@ -32,13 +32,13 @@ use Rattle.table.specs.Words.{RowRight, SameRow}
 use Rattle.opening.proofs.OpenedExactly.{opened-table}
 use Rattle.table.proofs.RowExactly.{inside-file}
 use Rattle.table.proofs.ValueOfRow.{value-of-row}
-use Rattle.cell.specs.Numbers.{natural, internalId, numberIn}
+use Rattle.taken.specs.Numbers.{natural, internalId, numberIn}
 use Rattle.load.specs.declared.TableName.{TableName}
 use Rattle.load.specs.declared.Counts.{Counts}
 use Rattle.load.specs.declared.Loaded.the-variants.{Tile}
-use Rattle.load.specs.Sources.{Files, fileOf, indexOf, tableIn, tableOf, tablesOf, nameAt, tableAt, atPlace}
+use Rattle.load.specs.Sources.{Files, fileOf, indexOf, tableIn, tableOf, tablesOf, nameAt, tableAt, columnsOf, atPlace}
 use Rattle.load.specs.Cells.{cellIn, cellOf}
-use Rattle.load.specs.Load.{columnsOf, loadOf, cellsOf, columnLeft}
+use Rattle.load.specs.Load.{loadOf, cellsOf, columnLeft}
 use Rattle.load.specs.Words.{loaded, OpensWith, layoutIn, countOf, Loads}
 use Rattle.load.proofs.LoadedExactly.{opened-as, place-found, loaded-exactly}
 
@@ -67,7 +67,8 @@ number-shown type.Integer o s c p end = integer-loads (number o s p 4)
 number-shown type.Triplet o s c p end = triplet-loads (tripletOf o (take (end - p) (drop p s)))
 number-shown type.Float o s c p end = let b = number o s p 4 in neither-loads (floatIsNull b) (val.FloatNull b) (val.Float b) refl refl
 number-shown type.Double o s c p end = let b = number o s p 8 in neither-loads (doubleIsNull b) (val.DoubleNull b) (val.Double b) refl refl
-number-shown type.Short o s c p end = let b = number o s p 2 in neither-loads (shortIsNull b) val.ShortNull (val.Short (signed shortHalf b)) refl refl
+number-shown type.Short o s c p end = let b = number o s p 2 in neither-loads (shortIsNull b) val.ShortNull
+    (val.Short (signed shortHalf b)) refl refl
 number-shown type.Text o s c p end = refl
 number-shown type.Latin o s c p end = refl
 number-shown type.ShortPair o s c p end = refl
@@ -78,7 +79,8 @@ number-shown type.Date o s c p end = refl
 number-shown type.NullField o s c p end = refl
 
 -- a cell is the number of the value that its field shows
-cell-shown : (s : List ℕ) (l : Layout) (start end k : ℕ) → cellIn s l start end k ≡ loaded (shown (l .order) s (columnAt l k) (columnPlace s l start end k) end)
+cell-shown : (s : List ℕ) (l : Layout) (start end k : ℕ)
+    → cellIn s l start end k ≡ loaded (shown (l .order) s (columnAt l k) (columnPlace s l start end k) end)
 unfolding cellIn shown
 cell-shown s l start end k = number-shown (columnAt l k .kind) (l .order) s (columnAt l k) (columnPlace s l start end k) end
 
@@ -106,7 +108,8 @@ module _ (file index : List ℕ) (most : ℕ) (h : Reading) (n : ℕ) (o : Opens
     cell-is-value =
         let w = inside-file file index most h n o (suc i) row-in in
         cell-shown file l start end k
-        ∙ sym (ap loaded (value-of-row file index most h n o (suc i) row-in right k c file (record { in-first = w; in-second = w; same = refl })))
+        ∙ sym (ap loaded (value-of-row file index most h n o (suc i) row-in right k c file
+        (record { in-first = w; in-second = w; same = refl })))
 
     -- IT IS A FUNCTION OF THE ROW'S OWN BYTES: whatever else stands in a file with these, it is the same
     pub cell-of-row : (t : List ℕ) → SameRow file t start end → cellOf file index l k i ≡ cellIn t l start end k
@@ -116,7 +119,8 @@ module _ (file index : List ℕ) (most : ℕ) (h : Reading) (n : ℕ) (o : Opens
         ∙ sym (cell-shown t l start end k)
 
 -- ---- THE LENT COLUMN of place k, d before, where a tile was loaded with the counts c
-module _ (f : Files) (most : ℕ) (lengths : List ℕ) (c : Counts) (e : loadOf f most lengths ≡ Tile c) (k : ℕ) (at-place : In 10 k) (d : List ℕ) where
+module _ (f : Files) (most : ℕ) (lengths : List ℕ) (c : Counts) (e : loadOf f most lengths ≡ Tile c) (k : ℕ)
+    (at-place : In 10 k) (d : List ℕ) where
   abbrev n : TableName
   n = tableAt k
 
@@ -153,12 +157,15 @@ module _ (f : Files) (most : ℕ) (lengths : List ℕ) (c : Counts) (e : loadOf 
       ∙ ap (λ (j : ℕ). cellOf (fileOf f n) (indexOf f n) (layoutIn f n) j i) (column-found .0)
 
   -- ELEMENT i IS THE VALUE OF ROW i + 1 in the table's column of this place's name
-  pub element-is-value : (i : ℕ) → i < countOf c n → getD left i 0 ≡ loaded (valueOf (fileOf f n) (indexOf f n) (tableOf f most n) (suc i) column)
+  pub element-is-value : (i : ℕ) → i < countOf c n
+      → getD left i 0 ≡ loaded (valueOf (fileOf f n) (indexOf f n) (tableOf f most n) (suc i) column)
   element-is-value i more =
       front-low (cellsOf f most n k) (tableIn (tablesOf f most) n .rows) d i (omega (arith, rows-counted))
       ∙ cells-of i
-      ∙ cell-is-value (fileOf f n) (indexOf f n) most reading (countOf c n) opens i more (loads .rows n (suc i) (omega arith, more)) column (column-found .1)
-      ∙ ap (λ (t : Table). loaded (valueOf (fileOf f n) (indexOf f n) t (suc i) column)) (sym (opened-table (fileOf f n) (indexOf f n) most reading (countOf c n) opens))
+      ∙ cell-is-value (fileOf f n) (indexOf f n) most reading (countOf c n) opens i more
+      (loads .rows n (suc i) (omega arith, more)) column (column-found .1)
+      ∙ ap (λ (t : Table). loaded (valueOf (fileOf f n) (indexOf f n) t (suc i) column))
+      (sym (opened-table (fileOf f n) (indexOf f n) most reading (countOf c n) opens))
 
   -- past the rows nothing is written, and the column is as long as before
   pub rest-as-it-was : (i : ℕ) → countOf c n ≤ i → getD left i 0 ≡ getD d i 0

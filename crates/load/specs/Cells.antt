@@ -4,9 +4,9 @@ use mathlib.Core.Bool.{false}
 use mathlib.Core.List.{List}
 use Prim.Native.Nat.{ℕ, suc, _≤_, _<_}
 use Rattle.header.specs.declared.Layout.{Layout}
-use Rattle.header.specs.Judge.{mostColumns}
+use Rattle.limits.specs.Limits.{mostColumns}
 use Rattle.table.specs.Rows.{columnAt, noSuchColumn, boundOf, columnPlace}
-use Rattle.cell.specs.Numbers.{numberIn}
+use Rattle.taken.specs.Numbers.{numberIn}
 use Rattle.load.specs.Sources.{atPlace}
 
 -- the cell of column k in the row from start to end

@@ -1,4 +1,5 @@
 pub mod Sources
+pub mod Columns
 pub mod Cells
 pub mod Load
 pub mod Words

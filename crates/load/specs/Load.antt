@@ -2,26 +2,22 @@
 -- writing nothing past the rows."
 use mathlib.Core.Bool.{Bool, cond}
 use mathlib.Core.List.{List, [], _∷_, _++_}
-use Prim.Native.Nat.{ℕ, zero, suc, _≤_}
+use Prim.Native.Nat.{ℕ, zero, suc}
 use lib.Dec.{eqb, ltb}
-use lib.ListN.{length}
 use Rattle.laws.specs.Lowest.{lowest, None}
 use Rattle.laws.specs.Buffer.{front}
 use Rattle.refusal.specs.declared.Refusal.{Refusal}
-use Rattle.refusal.specs.Order.{refusal, fine, refusedIf, located, refuses}
-use Rattle.header.specs.declared.Answer.{Answer}
-use Rattle.header.specs.declared.Answer.the-variants as answer
+use Rattle.refusal.specs.Order.{refusal, fine, refusedIf, refuses}
 use Rattle.opening.specs.declared.Table.{Table}
-use Rattle.opening.specs.Opening.{mostRows, tableRefusal}
+use Rattle.opening.specs.Opening.{tableRefusal}
 use Rattle.table.specs.Rows.{rowJudged, rowsRefusal}
-use Rattle.load.specs.Sources.{Files, fileOf, indexOf, tableIn, tablesOf, tableAt, columnsFor, atPlace, rowsFor}
+use Rattle.load.specs.Sources.{Files, fileOf, indexOf, tableIn, tablesOf, tableAt, columnsOf, atPlace, rowsFor}
+use Rattle.load.specs.Columns.{Columns, columns}
 use Rattle.load.specs.Cells.{cellOf}
 use Rattle.load.specs.declared.TableName.{TableName}
 use Rattle.load.specs.declared.TableName.the-variants.{Edg, Fac, Rng, Cnd}
 use Rattle.load.specs.declared.Tables.{Tables}
 use Rattle.load.specs.declared.Finding.{Finding}
-use Rattle.load.specs.declared.OpenedTables.{OpenedTables}
-use Rattle.load.specs.declared.Judged.{Judged}
 use Rattle.load.specs.declared.Counts.{Counts}
 use Rattle.load.specs.declared.Loaded.{Loaded}
 use Rattle.load.specs.declared.Loaded.the-variants.{Tile, Refused}
@@ -29,6 +25,7 @@ use Rattle.load.specs.declared.Loaded.the-variants.{Tile, Refused}
 abbrev pub finding : TableName → Refusal → Finding
 finding n q = record { table = n; refusal = q }
 
+-- nothing is found; no table is spoken of
 abbrev pub noFinding : Finding
 noFinding = finding Edg fine
 
@@ -40,12 +37,12 @@ abbrev pub firstFinding : List Finding → Finding
 firstFinding [] = noFinding
 firstFinding (a ∷ l) = firstFound a (firstFinding l)
 
--- ---- the tests
+-- what is found at the lowest place that fails a test; nothing at 0, where none does
+abbrev pub foundAt : (ℕ → Finding) → ℕ → Finding
+foundAt g zero = noFinding
+foundAt g (suc k) = g (suc k)
 
--- what an opening's answer refuses
-abbrev pub refusalOf : Answer → Refusal
-refusalOf answer.Accepted = fine
-refusalOf (answer.Refused q) = q
+-- ---- the tests
 
 -- the opening of a table
 abbrev pub opening : Files → ℕ → TableName → Finding
@@ -59,8 +56,11 @@ openingTests f most = opening f most Edg ∷ opening f most Fac ∷ opening f mo
 abbrev pub missing : List ℕ → ℕ → Bool
 missing columns k = eqb (atPlace columns k) 0
 
+abbrev pub columnWrong : ℕ → Finding
+columnWrong k = finding (tableAt k) (refusal 17 k)
+
 unfoldable pub columnFinding : List ℕ → Finding
-columnFinding columns = finding (tableAt (lowest (missing columns) 10)) (located 17 (lowest (missing columns) 10))
+columnFinding columns = foundAt columnWrong (lowest (missing columns) 10)
 
 -- "F, then R, zero (15)"
 unfoldable pub emptyFinding : TableName → ℕ → Finding
@@ -70,12 +70,11 @@ emptyFinding n rows = finding n (refusedIf (eqb rows 0) 15 0)
 abbrev pub tooShort : List ℕ → List ℕ → ℕ → Bool
 tooShort lengths rows k = ltb (atPlace lengths k) (atPlace rows k)
 
-abbrev pub roomAt : List ℕ → ℕ → Finding
-roomAt rows zero = noFinding
-roomAt rows (suc k) = finding (tableAt (suc k)) (refusal 14 (atPlace rows (suc k)))
+abbrev pub roomNeeded : List ℕ → ℕ → Finding
+roomNeeded rows k = finding (tableAt k) (refusal 14 (atPlace rows k))
 
 unfoldable pub roomFinding : List ℕ → List ℕ → Finding
-roomFinding lengths rows = roomAt rows (lowest (tooShort lengths rows) 10)
+roomFinding lengths rows = foundAt (roomNeeded rows) (lowest (tooShort lengths rows) 10)
 
 -- `columns` are the ten columns' numbers, `lengths` those of the ten lent columns
 abbrev pub fitTests : Tables → List ℕ → List ℕ → List Finding
@@ -86,19 +85,12 @@ fitTests t columns lengths =
 abbrev pub RowsJudged : List ℕ → List ℕ → Table → Type 0
 RowsJudged file index t = None (refuses (rowJudged file index (t .layout))) (t .rows)
 
--- no table has over 1,000,000
-abbrev pub FewRows : Tables → Type 0
-FewRows t = (t .edg .rows ≤ mostRows) × (t .fac .rows ≤ mostRows) × (t .rng .rows ≤ mostRows) × (t .cnd .rows ≤ mostRows)
-
 abbrev pub rowsFinding : Files → Tables → TableName → Finding
 rowsFinding f t n = finding n (rowsRefusal (fileOf f n) (indexOf f n) (tableIn t n))
 
 -- "then rows table by table"
 abbrev pub rowTests : Files → Tables → List Finding
 rowTests f t = rowsFinding f t Edg ∷ rowsFinding f t Fac ∷ rowsFinding f t Rng ∷ rowsFinding f t Cnd ∷ []
-
-abbrev pub columnsOf : Files → Tables → List ℕ
-columnsOf f t = columnsFor (f .edg) (f .fac) (f .rng) (f .cnd) t
 
 -- the tests in document 01's order
 abbrev pub tests : Files → ℕ → List ℕ → List Finding
@@ -107,22 +99,8 @@ tests f most lengths =
 
 -- ---- what they find
 
-unfoldable pub openedAll : Files → ℕ → OpenedTables
-openedAll f most = record { finding = firstFinding (openingTests f most); tables = tablesOf f most }
-
-unfoldable pub fitFinding : Tables → List ℕ → List ℕ → Finding
-fitFinding t columns lengths = firstFinding (fitTests t columns lengths)
-
-unfoldable pub allRowsFinding : Files → Tables → Finding
-allRowsFinding f t = firstFinding (rowTests f t)
-
 unfoldable pub loadFinding : Files → ℕ → List ℕ → Finding
 loadFinding f most lengths = firstFinding (tests f most lengths)
-
--- what was found, with the tables and the ten columns' numbers
-unfoldable pub judgedOf : Files → ℕ → List ℕ → Judged
-judgedOf f most lengths =
-    record { finding = loadFinding f most lengths; tables = tablesOf f most; columns = columnsOf f (tablesOf f most) }
 
 -- ---- what loading answers and leaves
 
@@ -146,7 +124,10 @@ abbrev pub columnLeft : Loaded → Files → ℕ → TableName → ℕ → List 
 columnLeft (Tile c) f most n k d = front (cellsOf f most n k) (tableIn (tablesOf f most) n .rows) d
 columnLeft (Refused q) f most n k d = d
 
--- the lengths of the ten lent columns
-abbrev pub lengthsOf : List ℕ → List ℕ → List ℕ → List ℕ → List ℕ → List ℕ → List ℕ → List ℕ → List ℕ → List ℕ → List ℕ
-lengthsOf a b c d e f g h i j =
-    length a ∷ length b ∷ length c ∷ length d ∷ length e ∷ length f ∷ length g ∷ length h ∷ length i ∷ length j ∷ []
+-- and all ten
+abbrev pub columnsLeft : Loaded → Files → ℕ → Columns → Columns
+columnsLeft r f most l =
+    columns (columnLeft r f most Edg 1 (l .startNode)) (columnLeft r f most Edg 2 (l .endNode)) (columnLeft r f most Edg 3 (l .rightFace))
+    (columnLeft r f most Edg 4 (l .leftFace)) (columnLeft r f most Edg 5 (l .rightEdge)) (columnLeft r f most Edg 6 (l .leftEdge))
+    (columnLeft r f most Fac 7 (l .ringPtr)) (columnLeft r f most Rng 8 (l .facId)) (columnLeft r f most Rng 9 (l .startEdge))
+    (columnLeft r f most Cnd 10 (l .firstEdge))

@@ -1,2 +1,4 @@
 -- Definitions that only serve proofs and the contracts of private functions: nothing that is promised is stated over them.
 pub mod CellPlans
+pub mod Named
+pub mod Stages

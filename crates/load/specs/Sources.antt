@@ -5,6 +5,7 @@ use mathlib.Core.List.{List, [], _∷_}
 use Prim.Native.Nat.{ℕ, pred}
 use lib.Dec.{eqb, ltb, leb}
 use lib.ListN.{getD}
+use Rattle.laws.specs.Texts.{bytes}
 use Rattle.field.specs.declared.FieldType.{FieldType}
 use Rattle.field.specs.Fields.{isInteger, isTriplet}
 use Rattle.header.specs.declared.Layout.{Layout}
@@ -30,23 +31,21 @@ pub record Files : Type 0 where
 abbrev pub files : List ℕ → List ℕ → List ℕ → List ℕ → List ℕ → List ℕ → List ℕ → List ℕ → Files
 files edg edx fac fax rng rnx cnd cnx = record { edg = edg; edx = edx; fac = fac; fax = fax; rng = rng; rnx = rnx; cnd = cnd; cnx = cnx }
 
+-- of four things the one of a table
+abbrev pub byTable : {A : Type 0} → A → A → A → A → TableName → A
+byTable edg fac rng cnd Edg = edg
+byTable edg fac rng cnd Fac = fac
+byTable edg fac rng cnd Rng = rng
+byTable edg fac rng cnd Cnd = cnd
+
 abbrev pub fileOf : Files → TableName → List ℕ
-fileOf f Edg = f .edg
-fileOf f Fac = f .fac
-fileOf f Rng = f .rng
-fileOf f Cnd = f .cnd
+fileOf f n = byTable (f .edg) (f .fac) (f .rng) (f .cnd) n
 
 abbrev pub indexOf : Files → TableName → List ℕ
-indexOf f Edg = f .edx
-indexOf f Fac = f .fax
-indexOf f Rng = f .rnx
-indexOf f Cnd = f .cnx
+indexOf f n = byTable (f .edx) (f .fax) (f .rnx) (f .cnx) n
 
 abbrev pub tableIn : Tables → TableName → Table
-tableIn t Edg = t .edg
-tableIn t Fac = t .fac
-tableIn t Rng = t .rng
-tableIn t Cnd = t .cnd
+tableIn t n = byTable (t .edg) (t .fac) (t .rng) (t .cnd) n
 
 -- the tables as their opening left them; `most` is the most rows that the caller takes
 abbrev pub tableOf : Files → ℕ → TableName → Table
@@ -57,20 +56,11 @@ tablesOf f most = record { edg = tableOf f most Edg; fac = tableOf f most Fac; r
 
 -- ---- the ten columns
 
--- start_node, end_node, right_face, left_face, right_edge, left_edge, ring_ptr, fac_id, start_edge, first_edge
+-- their names, by their places
 abbrev pub names : List (List ℕ)
 names =
-    (115 ∷ 116 ∷ 97 ∷ 114 ∷ 116 ∷ 95 ∷ 110 ∷ 111 ∷ 100 ∷ 101 ∷ [])
-    ∷ (101 ∷ 110 ∷ 100 ∷ 95 ∷ 110 ∷ 111 ∷ 100 ∷ 101 ∷ [])
-    ∷ (114 ∷ 105 ∷ 103 ∷ 104 ∷ 116 ∷ 95 ∷ 102 ∷ 97 ∷ 99 ∷ 101 ∷ [])
-    ∷ (108 ∷ 101 ∷ 102 ∷ 116 ∷ 95 ∷ 102 ∷ 97 ∷ 99 ∷ 101 ∷ [])
-    ∷ (114 ∷ 105 ∷ 103 ∷ 104 ∷ 116 ∷ 95 ∷ 101 ∷ 100 ∷ 103 ∷ 101 ∷ [])
-    ∷ (108 ∷ 101 ∷ 102 ∷ 116 ∷ 95 ∷ 101 ∷ 100 ∷ 103 ∷ 101 ∷ [])
-    ∷ (114 ∷ 105 ∷ 110 ∷ 103 ∷ 95 ∷ 112 ∷ 116 ∷ 114 ∷ [])
-    ∷ (102 ∷ 97 ∷ 99 ∷ 95 ∷ 105 ∷ 100 ∷ [])
-    ∷ (115 ∷ 116 ∷ 97 ∷ 114 ∷ 116 ∷ 95 ∷ 101 ∷ 100 ∷ 103 ∷ 101 ∷ [])
-    ∷ (102 ∷ 105 ∷ 114 ∷ 115 ∷ 116 ∷ 95 ∷ 101 ∷ 100 ∷ 103 ∷ 101 ∷ [])
-    ∷ []
+    bytes "start_node" ∷ bytes "end_node" ∷ bytes "right_face" ∷ bytes "left_face" ∷ bytes "right_edge"
+    ∷ bytes "left_edge" ∷ bytes "ring_ptr" ∷ bytes "fac_id" ∷ bytes "start_edge" ∷ bytes "first_edge" ∷ []
 
 abbrev pub nameAt : ℕ → List ℕ
 nameAt k = getD names (pred k) []
@@ -94,20 +84,13 @@ fitting l k c = cond (noSuchColumn l c) 0 (cond (typeFits k (columnAt l c .kind)
 unfoldable pub columnFor : List ℕ → Table → ℕ → ℕ
 columnFor file t k = fitting (t .layout) k (columnOf file (nameAt k))
 
+-- one for each of the ten places, by the table of the place
+abbrev pub ten : (TableName → ℕ → ℕ) → List ℕ
+ten g = g Edg 1 ∷ g Edg 2 ∷ g Edg 3 ∷ g Edg 4 ∷ g Edg 5 ∷ g Edg 6 ∷ g Fac 7 ∷ g Rng 8 ∷ g Rng 9 ∷ g Cnd 10 ∷ []
+
 -- the ten columns, by their places
-unfoldable pub columnsFor : List ℕ → List ℕ → List ℕ → List ℕ → Tables → List ℕ
-columnsFor edg fac rng cnd t =
-    columnFor edg (t .edg) 1
-    ∷ columnFor edg (t .edg) 2
-    ∷ columnFor edg (t .edg) 3
-    ∷ columnFor edg (t .edg) 4
-    ∷ columnFor edg (t .edg) 5
-    ∷ columnFor edg (t .edg) 6
-    ∷ columnFor fac (t .fac) 7
-    ∷ columnFor rng (t .rng) 8
-    ∷ columnFor rng (t .rng) 9
-    ∷ columnFor cnd (t .cnd) 10
-    ∷ []
+unfoldable pub columnsOf : Files → Tables → List ℕ
+columnsOf f t = ten (λ n. columnFor (fileOf f n) (tableIn t n))
 
 -- what stands at place k of ten
 abbrev pub atPlace : List ℕ → ℕ → ℕ
@@ -115,15 +98,4 @@ atPlace l k = getD l (pred k) 0
 
 -- the rows of each place's table
 unfoldable pub rowsFor : Tables → List ℕ
-rowsFor t =
-    t .edg .rows
-    ∷ t .edg .rows
-    ∷ t .edg .rows
-    ∷ t .edg .rows
-    ∷ t .edg .rows
-    ∷ t .edg .rows
-    ∷ t .fac .rows
-    ∷ t .rng .rows
-    ∷ t .rng .rows
-    ∷ t .cnd .rows
-    ∷ []
+rowsFor t = ten (λ n k. tableIn t n .rows)

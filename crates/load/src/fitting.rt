@@ -1,20 +1,24 @@
 // The tests between opening and rows: 17 by place, F, then R, zero (15), room (14, by place).
 use crate::Finding;
 use crate::TableName;
+use crate::TableNames;
 use crate::Tables;
 use field::FieldType;
 use header::Layout;
+use header::Names;
+use opening::Table;
+use refusal::OVER_LIMIT;
+use refusal::TOO_SHORT;
+use refusal::WRONG_COLUMN;
 ghost use mathlib.Core.Path.{_≡_};
 ghost use Prim.Native.Nat.{_≤_, _<_};
 ghost use Rattle.laws.specs.Lowest.{lowest};
-ghost use Rattle.header.specs.Judge.{mostColumns};
+ghost use Rattle.limits.specs.Limits.{mostColumns};
 ghost use Rattle.table.specs.Rows.{columnAt};
-ghost use Rattle.load.specs.Sources.{tableAt, tripletsToo, typeFits, fitting, columnsFor, rowsFor};
-ghost use Rattle.load.specs.Load.{missing, columnFinding, emptyFinding, tooShort, roomFinding, fitFinding};
-
-const WRONG_COLUMN: u32 = 17;
-const EMPTY_TABLE: u32 = 15;
-const TOO_SHORT: u32 = 14;
+ghost use Rattle.load.specs.Sources.{tableAt, tripletsToo, typeFits, fitting, rowsFor};
+ghost use Rattle.load.specs.Serving.Named.{columnBy, columnsBy};
+ghost use Rattle.load.specs.Load.{missing, columnFinding, emptyFinding, tooShort, roomFinding};
+ghost use Rattle.load.specs.Serving.Stages.{fitFinding};
 
 // The places of a tile's columns.
 const PLACES: usize = 10;
@@ -83,25 +87,48 @@ fn fit(layout: Layout, place: usize, column: usize) -> usize
     0
 }
 
+// The column of a name for its place, found by where the names lie: no header is judged anew.
+fn column_by(file: &[u8], table: Table, names: Names, place: usize, name: &[u8]) -> usize
+    ensures { λ r. ⌜ r ≡ columnBy (now (file .entry)) table names place (now (name .entry)) ⌝ }
+{
+    let layout = table.layout;
+    fit(
+        layout,
+        place,
+        header::column_among(file, names, layout.columns, name),
+    )
+}
+
 // The numbers of the ten columns, by their places; 0 for one that is missing or of a wrong type.
-pub(crate) fn find_columns(edg: &[u8], fac: &[u8], rng: &[u8], cnd: &[u8], tables: Tables) -> [usize; 10]
-    ensures { λ r. ⌜ r ≡ columnsFor (now (edg .entry)) (now (fac .entry)) (now (rng .entry)) (now (cnd .entry)) tables ⌝ }
+pub(crate) fn find_columns(
+    edg: &[u8],
+    fac: &[u8],
+    rng: &[u8],
+    cnd: &[u8],
+    tables: Tables,
+    names: TableNames,
+) -> [usize; 10]
+    ensures { λ r. ⌜ r ≡ columnsBy (now (edg .entry)) (now (fac .entry)) (now (rng .entry)) (now (cnd .entry)) tables names ⌝ }
 {
     let e = tables.edg;
     let f = tables.fac;
     let g = tables.rng;
     let h = tables.cnd;
+    let edge_names = names.edg;
+    let face_names = names.fac;
+    let ring_names = names.rng;
+    let node_names = names.cnd;
     [
-        fit(e.layout, 1, header::find_column(edg, b"start_node")),
-        fit(e.layout, 2, header::find_column(edg, b"end_node")),
-        fit(e.layout, 3, header::find_column(edg, b"right_face")),
-        fit(e.layout, 4, header::find_column(edg, b"left_face")),
-        fit(e.layout, 5, header::find_column(edg, b"right_edge")),
-        fit(e.layout, 6, header::find_column(edg, b"left_edge")),
-        fit(f.layout, 7, header::find_column(fac, b"ring_ptr")),
-        fit(g.layout, 8, header::find_column(rng, b"fac_id")),
-        fit(g.layout, 9, header::find_column(rng, b"start_edge")),
-        fit(h.layout, 10, header::find_column(cnd, b"first_edge")),
+        column_by(edg, e, edge_names, 1, b"start_node"),
+        column_by(edg, e, edge_names, 2, b"end_node"),
+        column_by(edg, e, edge_names, 3, b"right_face"),
+        column_by(edg, e, edge_names, 4, b"left_face"),
+        column_by(edg, e, edge_names, 5, b"right_edge"),
+        column_by(edg, e, edge_names, 6, b"left_edge"),
+        column_by(fac, f, face_names, 7, b"ring_ptr"),
+        column_by(rng, g, ring_names, 8, b"fac_id"),
+        column_by(rng, g, ring_names, 9, b"start_edge"),
+        column_by(cnd, h, node_names, 10, b"first_edge"),
     ]
 }
 
@@ -138,14 +165,17 @@ fn judge_columns(columns: [usize; 10]) -> Finding
     ensures { λ r. ⌜ r ≡ columnFinding columns ⌝ }
 {
     let place = missing_place(columns);
-    crate::find(table_at(place), refusal::refuse_at(WRONG_COLUMN, place))
+    if place == 0 {
+        return crate::nothing_found();
+    }
+    crate::find(table_at(place), refusal::refuse(WRONG_COLUMN, place))
 }
 
 fn judge_empty(table: TableName, rows: usize) -> Finding
     ensures { λ r. ⌜ r ≡ emptyFinding table rows ⌝ }
 {
     if rows == 0 {
-        return crate::find(table, refusal::refuse(EMPTY_TABLE, 0));
+        return crate::find(table, refusal::refuse(OVER_LIMIT, 0));
     }
     crate::find(table, refusal::no_refusal())
 }
@@ -155,7 +185,7 @@ fn judge_room(lengths: [usize; 10], rows: [usize; 10]) -> Finding
 {
     let place = short_place(lengths, rows);
     if place == 0 {
-        return crate::find(TableName::Edg, refusal::no_refusal());
+        return crate::nothing_found();
     }
     crate::find(table_at(place), refusal::refuse(TOO_SHORT, rows[place - 1]))
 }
@@ -179,5 +209,5 @@ pub(crate) fn judge_fit(tables: Tables, columns: [usize; 10], lengths: [usize; 1
     let b = judge_empty(TableName::Fac, tables.fac.rows);
     let c = judge_empty(TableName::Rng, tables.rng.rows);
     let d = judge_room(lengths, rows_for(tables));
-    crate::first_found(a, crate::first_found(b, crate::first_found(c, crate::first_found(d, crate::find(TableName::Edg, refusal::no_refusal())))))
+    crate::first_of_four(a, b, c, d)
 }

@@ -4,7 +4,8 @@ use mathlib.Core.Logic.{by-cases}
 use mathlib.Core.List.{List, [], _∷_, _++_, reverse, reverseAux, reverse-cons, reverse-reverse, append-assoc}
 use Prim.Native.Nat.{ℕ, zero, suc, _+_, _-_, _*_, _/_, _%_, _^_, _≤_, _<_}
 use native.Mathlib.Omega.{arith}
-use native.Mathlib.Nat.{pow-suc, zero-add, add-zero, div-add-mod', mod-eq-of-lt}
+use native.Mathlib.Numerals.{add-one}
+use native.Mathlib.Nat.{pow-suc, zero-add, add-zero, add-suc, div-add-mod', mod-eq-of-lt}
 use native.Mathlib.Decide.{decLt, decLe}
 use borrow.Author.Tests.{le-leb, lt-leb}
 use lib.ListN.{length, getD, take, drop, length-append, length-drop, length-take, take-append-drop, List·getD-eq-default}
@@ -99,7 +100,8 @@ pub number-outside : (o : Order) (s : List ℕ) (at w : ℕ) → length s < at +
 unfolding number
 number-outside o s at w h = rw (lt-leb (at + w) (length s) h)
 
-pub written-inside : (o : Order) (s : List ℕ) (at w v : ℕ) → at + w ≤ length s → written o s at w v ≡ take at s ++ (bytesOf o w v ++ drop (at + w) s)
+pub written-inside : (o : Order) (s : List ℕ) (at w v : ℕ) → at + w ≤ length s
+    → written o s at w v ≡ take at s ++ (bytesOf o w v ++ drop (at + w) s)
 unfolding written
 written-inside o s at w v h = rw (le-leb (at + w) (length s) h)
 
@@ -130,14 +132,23 @@ written-nothing o s at v =
     length-0 [] e = refl
     length-0 (x ∷ l) e = absurd (omega arith)
 
--- the w elements from a place on, one by one
+-- the w elements from a place on, one by one, and those from k places after it
+abbrev after : List ℕ → ℕ → ℕ → ℕ → List ℕ
+after s at k zero = []
+after s at k (suc w) = getD s (at + k) 0 ∷ after s at (suc k) w
+
 abbrev pub following : List ℕ → ℕ → ℕ → List ℕ
 following s at zero = []
-following s at (suc w) = getD s at 0 ∷ following s (suc at) w
+following s at (suc w) = getD s at 0 ∷ after s at 1 w
+
+part-after : (s : List ℕ) (w at k : ℕ) → at + k + w ≤ length s → take w (drop (at + k) s) ≡ after s at k w
+part-after s zero at k h = refl
+part-after s (suc w) at k h =
+    rw (drop-cons s (at + k) 0 (omega arith), ← add-suc at k, part-after s w at (suc k) (omega arith))
 
 part-following : (s : List ℕ) (w at : ℕ) → at + w ≤ length s → take w (drop at s) ≡ following s at w
 part-following s zero at h = refl
-part-following s (suc w) at h = rw (drop-cons s at 0 (omega arith), part-following s w (suc at) (omega arith))
+part-following s (suc w) at h = rw (drop-cons s at 0 (omega arith), ← add-one at, part-after s w at 1 (omega arith))
 
 -- what straight-line code reads, in either order and at every width
 pub read-by : (o : Order) (s : List ℕ) (at w : ℕ) → at + w ≤ length s → number o s at w ≡ leastFirst (inOrder o (following s at w))
@@ -160,6 +171,18 @@ write-by o s at w v h =
     ∙ ap (λ (k : ℕ). take at s ++ (bytesOf o w v ++ drop (at + k) s)) n
     ∙ sym (written-inside o s at w v h)
 
+-- the same of bytes that are known to be the digits
+pub written-as : (o : Order) (s : List ℕ) (at w v : ℕ) {l : List ℕ} → l ≡ digits w v → at + w ≤ length s
+    → sets s at (inOrder o l) ≡ written o s at w v
+unfolding bytesOf
+written-as o s at w v e h = ap (λ (l : List ℕ). sets s at (inOrder o l)) e ∙ write-by o s at w v h
+
+-- eight digits are the last four and the four before them
+pub eight-digits : (v : ℕ) {l m : List ℕ} → l ≡ digits 4 v → m ≡ digits 4 (v / 4294967296) → l ++ m ≡ digits 8 v
+eight-digits v {l} e f =
+    let h : v / 4294967296 ≡ v / 256 / 256 / 256 / 256 = omega arith in
+    ap (λ (k : List ℕ). l ++ k) (f ∙ ap (digits 4) h) ∙ ap (λ (k : List ℕ). k ++ digits 4 (v / 256 / 256 / 256 / 256)) e
+
 one-digit : (o : Order) (v : ℕ) → v < 256 → bytesOf o 1 v ≡ v ∷ []
 unfolding bytesOf
 one-digit Least v h = ap (λ (b : ℕ). b ∷ []) (mod-eq-of-lt h)
@@ -180,7 +203,8 @@ length-part s at w h = length-take-le w (drop at s) (rw (length-drop at s) (omeg
 
 -- a number is below 256 to the power of its width, and its bytes are those that stand there
 pub number-small : (o : Order) (s : List ℕ) (at w : ℕ) → AreBytes s → at + w ≤ length s → number o s at w < 256 ^ w
-number-small o s at w a h = rw (number-inside o s at w h) (rw (length-part s at w h) at (value-small o (take w (drop at s)) (bytes-part s at w a)))
+number-small o s at w a h = rw (number-inside o s at w h)
+    (rw (length-part s at w h) at (value-small o (take w (drop at s)) (bytes-part s at w a)))
 
 pub bytes-number : (o : Order) (s : List ℕ) (at w : ℕ) → AreBytes s → at + w ≤ length s → bytesOf o w (number o s at w) ≡ take w (drop at s)
 bytes-number o s at w a h =
@@ -212,7 +236,8 @@ pub written-next : (o : Order) (done s : List ℕ) (at w v : ℕ) → length don
 written-next o done s at w v e h =
     written-inside o (done ++ drop at s) at w v (simp (length-append, length-drop) (omega arith))
     ∙ ap (λ (l : List ℕ). l ++ (bytesOf o w v ++ drop (at + w) (done ++ drop at s))) (take-at done (drop at s) at e)
-    ∙ ap (λ (l : List ℕ). done ++ (bytesOf o w v ++ l)) (sym (drop-drop w at (done ++ drop at s)) ∙ ap (drop w) (drop-at done (drop at s) at e) ∙ drop-drop w at s)
+    ∙ ap (λ (l : List ℕ). done ++ (bytesOf o w v ++ l))
+    (sym (drop-drop w at (done ++ drop at s)) ∙ ap (drop w) (drop-at done (drop at s) at e) ∙ drop-drop w at s)
     ∙ sym (append-assoc done (bytesOf o w v) (drop (at + w) s))
 
 -- THE ROUND TRIP: what was written is read, in either order and at every width

@@ -1,11 +1,11 @@
 // Unsigned numbers of 1, 2, 4 and 8 bytes in either byte order, at a place of a slice. A number that does not lie wholly
 // inside the slice reads as 0, and writing one there changes nothing.
 ghost use mathlib.Core.Path.{_≡_};
-ghost use mathlib.Core.List.{_∷_, []};
-ghost use Prim.Native.Nat.{_+_, _≤_};
+ghost use mathlib.Core.List.{List, _∷_, []};
+ghost use Prim.Native.Nat.{ℕ, _+_, _-_, _≤_};
 ghost use lib.ListN.{length};
 ghost use lib.Seq.{sets};
-ghost use Rattle.number.specs.Bytes.{orderOf, leastFirst, number, written};
+ghost use Rattle.number.specs.Bytes.{orderOf, leastFirst, digits, number, written};
 
 pub enum Order {
     Least,
@@ -56,14 +56,18 @@ fn join8(a: u8, b: u8, c: u8, d: u8, e: u8, f: u8, g: u8, h: u8) -> u64
     low as u64 + 4294967296 * (high as u64)
 }
 
+// How many of n bytes stand from a place on: none where it is past the end.
+fn bytes_from(n: usize, at: usize) -> usize
+    ensures { λ r. ⌜ r ≡ n - at ⌝ }
+{
+    if n < at { 0 } else { n - at }
+}
+
 // The number of one byte at a place; 0 where it does not lie wholly inside.
 pub fn read1(s: &[u8], at: usize, order: Order) -> u8
     ensures { λ r. ⌜ r ≡ number order (now (s .entry)) at 1 ⌝ }
 {
-    if s.len() < at {
-        return 0;
-    }
-    if s.len() - at < 1 {
+    if bytes_from(s.len(), at) < 1 {
         return 0;
     }
     s[at]
@@ -73,10 +77,7 @@ pub fn read1(s: &[u8], at: usize, order: Order) -> u8
 pub fn read2(s: &[u8], at: usize, order: Order) -> u16
     ensures { λ r. ⌜ r ≡ number order (now (s .entry)) at 2 ⌝ }
 {
-    if s.len() < at {
-        return 0;
-    }
-    if s.len() - at < 2 {
+    if bytes_from(s.len(), at) < 2 {
         return 0;
     }
     match order {
@@ -89,10 +90,7 @@ pub fn read2(s: &[u8], at: usize, order: Order) -> u16
 pub fn read4(s: &[u8], at: usize, order: Order) -> u32
     ensures { λ r. ⌜ r ≡ number order (now (s .entry)) at 4 ⌝ }
 {
-    if s.len() < at {
-        return 0;
-    }
-    if s.len() - at < 4 {
+    if bytes_from(s.len(), at) < 4 {
         return 0;
     }
     match order {
@@ -105,15 +103,30 @@ pub fn read4(s: &[u8], at: usize, order: Order) -> u32
 pub fn read8(s: &[u8], at: usize, order: Order) -> u64
     ensures { λ r. ⌜ r ≡ number order (now (s .entry)) at 8 ⌝ }
 {
-    if s.len() < at {
-        return 0;
-    }
-    if s.len() - at < 8 {
+    if bytes_from(s.len(), at) < 8 {
         return 0;
     }
     match order {
-        Order::Least => join8(s[at], s[at + 1], s[at + 2], s[at + 3], s[at + 4], s[at + 5], s[at + 6], s[at + 7]),
-        Order::Most => join8(s[at + 7], s[at + 6], s[at + 5], s[at + 4], s[at + 3], s[at + 2], s[at + 1], s[at]),
+        Order::Least => join8(
+            s[at],
+            s[at + 1],
+            s[at + 2],
+            s[at + 3],
+            s[at + 4],
+            s[at + 5],
+            s[at + 6],
+            s[at + 7],
+        ),
+        Order::Most => join8(
+            s[at + 7],
+            s[at + 6],
+            s[at + 5],
+            s[at + 4],
+            s[at + 3],
+            s[at + 2],
+            s[at + 1],
+            s[at],
+        ),
     }
 }
 
@@ -160,14 +173,33 @@ fn put8(s: &mut [u8], at: usize, a: u8, b: u8, c: u8, d: u8, e: u8, f: u8, g: u8
     s[at + 7] = h;
 }
 
+// The last four bytes of a number, the least significant first.
+struct FourBytes {
+    a: u8,
+    b: u8,
+    c: u8,
+    d: u8,
+}
+
+fn split4(v: u64) -> FourBytes
+    ensures { λ r. ⌜ _≡_ {A = List ℕ} (r .a ∷ r .b ∷ r .c ∷ r .d ∷ []) (digits 4 v) ⌝ }
+{
+    let v1 = v / 256;
+    let v2 = v1 / 256;
+    let v3 = v2 / 256;
+    FourBytes {
+        a: (v % 256) as u8,
+        b: (v1 % 256) as u8,
+        c: (v2 % 256) as u8,
+        d: (v3 % 256) as u8,
+    }
+}
+
 // Writes the number in one byte at a place; nothing where they do not lie wholly inside.
 pub fn write1(s: &mut [u8], at: usize, v: u8, order: Order)
     ensures { λ _. ⌜ now (s .exit) ≡ written order (now (s .entry)) at 1 v ⌝ }
 {
-    if s.len() < at {
-        return;
-    }
-    if s.len() - at < 1 {
+    if bytes_from(s.len(), at) < 1 {
         return;
     }
     put1(s, at, v);
@@ -177,18 +209,14 @@ pub fn write1(s: &mut [u8], at: usize, v: u8, order: Order)
 pub fn write2(s: &mut [u8], at: usize, v: u16, order: Order)
     ensures { λ _. ⌜ now (s .exit) ≡ written order (now (s .entry)) at 2 v ⌝ }
 {
-    if s.len() < at {
+    if bytes_from(s.len(), at) < 2 {
         return;
     }
-    if s.len() - at < 2 {
-        return;
-    }
-    let a = (v % 256) as u8;
-    let v1 = v / 256;
-    let b = (v1 % 256) as u8;
+    let low = (v % 256) as u8;
+    let high = (v / 256 % 256) as u8;
     match order {
-        Order::Least => put2(s, at, a, b),
-        Order::Most => put2(s, at, b, a),
+        Order::Least => put2(s, at, low, high),
+        Order::Most => put2(s, at, high, low),
     }
 }
 
@@ -196,22 +224,13 @@ pub fn write2(s: &mut [u8], at: usize, v: u16, order: Order)
 pub fn write4(s: &mut [u8], at: usize, v: u32, order: Order)
     ensures { λ _. ⌜ now (s .exit) ≡ written order (now (s .entry)) at 4 v ⌝ }
 {
-    if s.len() < at {
+    if bytes_from(s.len(), at) < 4 {
         return;
     }
-    if s.len() - at < 4 {
-        return;
-    }
-    let a = (v % 256) as u8;
-    let v1 = v / 256;
-    let b = (v1 % 256) as u8;
-    let v2 = v1 / 256;
-    let c = (v2 % 256) as u8;
-    let v3 = v2 / 256;
-    let d = (v3 % 256) as u8;
+    let l = split4(v as u64);
     match order {
-        Order::Least => put4(s, at, a, b, c, d),
-        Order::Most => put4(s, at, d, c, b, a),
+        Order::Least => put4(s, at, l.a, l.b, l.c, l.d),
+        Order::Most => put4(s, at, l.d, l.c, l.b, l.a),
     }
 }
 
@@ -219,29 +238,13 @@ pub fn write4(s: &mut [u8], at: usize, v: u32, order: Order)
 pub fn write8(s: &mut [u8], at: usize, v: u64, order: Order)
     ensures { λ _. ⌜ now (s .exit) ≡ written order (now (s .entry)) at 8 v ⌝ }
 {
-    if s.len() < at {
+    if bytes_from(s.len(), at) < 8 {
         return;
     }
-    if s.len() - at < 8 {
-        return;
-    }
-    let a = (v % 256) as u8;
-    let v1 = v / 256;
-    let b = (v1 % 256) as u8;
-    let v2 = v1 / 256;
-    let c = (v2 % 256) as u8;
-    let v3 = v2 / 256;
-    let d = (v3 % 256) as u8;
-    let v4 = v3 / 256;
-    let e = (v4 % 256) as u8;
-    let v5 = v4 / 256;
-    let f = (v5 % 256) as u8;
-    let v6 = v5 / 256;
-    let g = (v6 % 256) as u8;
-    let v7 = v6 / 256;
-    let h = (v7 % 256) as u8;
+    let l = split4(v);
+    let h = split4(v / 4294967296);
     match order {
-        Order::Least => put8(s, at, a, b, c, d, e, f, g, h),
-        Order::Most => put8(s, at, h, g, f, e, d, c, b, a),
+        Order::Least => put8(s, at, l.a, l.b, l.c, l.d, h.a, h.b, h.c, h.d),
+        Order::Most => put8(s, at, h.d, h.c, h.b, h.a, l.d, l.c, l.b, l.a),
     }
 }

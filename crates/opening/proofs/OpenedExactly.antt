@@ -124,7 +124,8 @@ module _ (file index : List ℕ) (most : ℕ) where
   )
 
   -- THE OPENED TABLE has the header's layout and the n rows
-  pub opened-table : (h : Reading) (n : ℕ) → Opens file index most h n → openedOf file index most .table ≡ record { layout = layoutOf file; rows = n }
+  pub opened-table : (h : Reading) (n : ℕ) → Opens file index most h n
+      → openedOf file index most .table ≡ record { layout = layoutOf file; rows = n }
   unfolding openedOf
   opened-table h n o =
       rw (eq-eqb (tableRefusal file index most .number) 0 (opened-exactly .1 (h, n, o)))

@@ -36,7 +36,8 @@ use Rattle.header.specs.Refusals as header
 use Rattle.header.proofs.AcceptedExactly.{accepted-exactly}
 use Rattle.header.proofs.RefusedExactly as refused
 use Rattle.header.proofs.LayoutMeans.{laid-out}
-use Rattle.opening.specs.Opening.{mostRows, needsIndex, headerSize, offsetAt, lengthAt, endAt, entryWrong, sizeWrong, headWrong}
+use Rattle.limits.specs.Limits.{mostRows}
+use Rattle.opening.specs.Opening.{needsIndex, headerSize, offsetAt, lengthAt, endAt, entryWrong, sizeWrong, headWrong}
 use Rattle.opening.specs.Opening.{indexRefusal, fixedRefusal, rowsSaid, openRefusal, tableRefusal}
 use Rattle.opening.specs.Words.{layoutOf, HasOneWidth, NeedsIndex, entriesOf, WholeRows, RowsSaid, rowsIn, FixedRight, HeadRight, StartsRight, EndsRight}
 use Rattle.opening.specs.Words.{Test, header-accepted, index-there, rows-few, whole-rows, index-head, entries, last-end, rank, Holds, FailsAt, RefusedWith}
@@ -158,7 +159,8 @@ module _ (file index : List ℕ) (most : ℕ) where
       λ e.
           bool-cases (needsIndex l)
           (λ t. inr (no-width .0 t, rw t at e))
-          (λ t. let z = eqb-false (l .width) 0 t in let w : OneWidth file = omega arith in inl (has-one-width file a .0 w, whole-exactly w m .1 (rw t at e))),
+          (λ t. let z = eqb-false (l .width) 0 t in let w : OneWidth file = omega arith in inl
+          (has-one-width file a .0 w, whole-exactly w m .1 (rw t at e))),
     )
 
     few-rows : ltb (min most mostRows) (rowsIn file index) ≡ false → Holds file index most rows-few
@@ -181,10 +183,12 @@ module _ (file index : List ℕ) (most : ℕ) where
       let z = eqb-false (headerRefusal file .number) 0 t in
       inr (z, refused.refused-exactly file (headerRefusal file .number) (headerRefusal file .place) .0 (refl, z)))
 
-  fixed-exactly : l .start ≤ size → OneWidth file → (cond (eqb (length index) 0) (not (eqb ((size - l .start) % l .width) 0)) true ≡ false) ↔ FixedRight file index
+  fixed-exactly : l .start ≤ size → OneWidth file
+      → (cond (eqb (length index) 0) (not (eqb ((size - l .start) % l .width) 0)) true ≡ false) ↔ FixedRight file index
   fixed-exactly i w =
       let x = (size - l .start) / l .width in
-      let q = wrong-unless (eqb (length index) 0) (not (eqb ((size - l .start) % l .width) 0)) (equal (length index) 0) (not-unequal ((size - l .start) % l .width) 0) in (
+      let q = wrong-unless (eqb (length index) 0) (not (eqb ((size - l .start) % l .width) 0)) (equal (length index) 0)
+      (not-unequal ((size - l .start) % l .width) 0) in (
         λ e.
             let r = q .0 e in
             (x, record { no-index = empty-list index (r .0); whole-rows = omega (arith, div-add-mod (size - l .start) (l .width), r .1) }),
@@ -244,7 +248,8 @@ module _ (file index : List ℕ) (most : ℕ) where
         index-there,
         refl,
         λ e.
-            asked-where (needsIndex l) (NeedsIndex file) (no-width (e header-accepted (omega arith))) (ltb (length index) 8) 8 0 _ _ (λ z. omega arith)
+            asked-where (needsIndex l) (NeedsIndex file) (no-width (e header-accepted (omega arith)))
+            (ltb (length index) 8) 8 0 _ _ (λ z. omega arith)
             (λ g. (ltb-false (length index) 8, ltb-true (length index) 8)),
       ),
       (
@@ -269,7 +274,8 @@ module _ (file index : List ℕ) (most : ℕ) where
               index-head,
               refl,
               λ e.
-                  right-where (needsIndex l) (NeedsIndex file) (no-width (e header-accepted (omega arith))) (headWrong l index) 8 0 (HeadRight l index) (λ z. omega arith)
+                  right-where (needsIndex l) (NeedsIndex file) (no-width (e header-accepted (omega arith)))
+                  (headWrong l index) 8 0 (HeadRight l index) (λ z. omega arith)
                   (λ g. head-exactly),
             ),
             (
@@ -277,7 +283,8 @@ module _ (file index : List ℕ) (most : ℕ) where
                 entries,
                 refl,
                 λ e.
-                    judged-where (needsIndex l) _ (NeedsIndex file) _ (λ m p. (m ≡ 8) × LowestFailing n (StartsRight l index) p) (FailsAt file index most entries)
+                    judged-where (needsIndex l) _ (NeedsIndex file) _
+                    (λ m p. (m ≡ 8) × LowestFailing n (StartsRight l index) p) (FailsAt file index most entries)
                     (no-width (e header-accepted (omega arith))) (λ m p g f. (f .0, g, f .1))
                     (λ g. judged-lowest (StartsRight l index) n 8 (λ z. omega arith) (entryWrong l index) start-exactly),
               ),
@@ -286,7 +293,8 @@ module _ (file index : List ℕ) (most : ℕ) where
                   last-end,
                   refl,
                   λ e.
-                      right-where (needsIndex l) (NeedsIndex file) (no-width (e header-accepted (omega arith))) _ 8 n (EndsRight l index size n) (λ z. omega arith)
+                      right-where (needsIndex l) (NeedsIndex file) (no-width (e header-accepted (omega arith))) _ 8 n
+                      (EndsRight l index size n) (λ z. omega arith)
                       (λ g. end-exactly n),
                 ),
                 tt,
@@ -309,7 +317,8 @@ module _ (file index : List ℕ) (most : ℕ) where
   not-both entries m p f h = fails-not-each _ _ p (f .2) (h (f .1))
   not-both last-end m p f h = f .3 (h (f .2))
 
-  one-way : (x : Test) (m p k q : ℕ) → ((y : Test) → rank y < rank x → Holds file index most y) → FailsAt file index most x m p → FailsAt file index most x k q
+  one-way : (x : Test) (m p k q : ℕ) → ((y : Test) → rank y < rank x → Holds file index most y)
+      → FailsAt file index most x m p → FailsAt file index most x k q
       → (m ≡ k) × (p ≡ q)
   one-way header-accepted m p k q e f g = refused.refused-once file m p k q f g
   one-way index-there m p k q e f g = (f .0 ∙ sym (g .0), f .1 ∙ sym (g .1))
@@ -331,7 +340,8 @@ module _ (file index : List ℕ) (most : ℕ) where
   unfolding tests
   refused-exactly-when m p =
       rw one-after-the-other
-      (let w = refused-exactly Test rank apart (Holds file index most) (FailsAt file index most) tests in-order rank-below not-both one-way m p in (
+      (let w = refused-exactly Test rank apart (Holds file index most)
+      (FailsAt file index most) tests in-order rank-below not-both one-way m p in (
         λ e. let f = w .0 e in record { test = f .test; earlier = f .earlier; fails = f .fails },
         λ f. w .1 (record { test = f .test; earlier = f .earlier; fails = f .fails }),
       ))

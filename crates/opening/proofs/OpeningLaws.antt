@@ -16,12 +16,17 @@ use Rattle.refusal.specs.Order.{refusal, fine, refusedIf, located, first}
 use Rattle.refusal.proofs.OrderLaws.{first-passes, first-refuses, located-zero, located-at, located-passes}
 use Rattle.header.specs.declared.Layout.{Layout}
 use Rattle.header.specs.declared.Header.{Header}
+use Rattle.header.specs.declared.Names.{Names}
 use Rattle.header.specs.declared.Answer.the-variants.{Accepted, Refused}
 use Rattle.header.specs.Judge.{answered, headerRefusal}
+use Rattle.header.specs.Names.{noNames, columnAmong}
 use Rattle.header.specs.Layouts.{headerOf}
+use Rattle.header.specs.Steps.{columnOf}
+use Rattle.header.proofs.HeaderLaws.{among-names}
 use Rattle.opening.specs.declared.Table.{Table}
 use Rattle.opening.specs.declared.Opened.{Opened}
-use Rattle.opening.specs.Opening.{mostRows, needsIndex, entriesSaid, offsetAt, lengthAt, endAt, entryWrong, headWrong, indexRefusal}
+use Rattle.limits.specs.Limits.{mostRows}
+use Rattle.opening.specs.Opening.{needsIndex, entriesSaid, offsetAt, lengthAt, endAt, entryWrong, headWrong, indexRefusal}
 use Rattle.opening.specs.Opening.{rowsSaid, bodyRefusal, openRefusal, tableRefusal, tableFrom, noTable, openedAs, openedOf}
 
 module _ (l : Layout) (index : List ℕ) where
@@ -64,7 +69,8 @@ module _ (l : Layout) (index : List ℕ) (size : ℕ) where
     head-passes : indexRefusal l index size ≡ first (located 8 w) (lastRefusal n)
     unfolding indexRefusal
     head-passes =
-        first-passes (refusedIf (headWrong l index) 8 0) (first (located 8 (lowest (entryWrong l index) (entriesSaid l index))) (lastRefusal (entriesSaid l index)))
+        first-passes (refusedIf (headWrong l index) 8 0)
+        (first (located 8 (lowest (entryWrong l index) (entriesSaid l index))) (lastRefusal (entriesSaid l index)))
         (ap (λ (b : Bool). refusedIf b 8 0 .number) h)
         ∙ rw (← e, ← q)
 
@@ -92,11 +98,13 @@ module _ (l : Layout) (index : List ℕ) (size most : ℕ) where
   unfolding openRefusal first
   open-head h = rw h
 
-  pub open-rows : lacks ≡ false → (rows : ℕ) → rows ≡ rowsSaid l index size → min most mostRows < rows → refusal 15 0 ≡ openRefusal l index size most
+  pub open-rows : lacks ≡ false → (rows : ℕ) → rows ≡ rowsSaid l index size → min most mostRows < rows
+      → refusal 15 0 ≡ openRefusal l index size most
   unfolding openRefusal first
   open-rows h rows e u = rw (h, ← e, lt-ltb (min most mostRows) rows u)
 
-  pub open-rest : lacks ≡ false → (rows : ℕ) → rows ≡ rowsSaid l index size → rows ≤ min most mostRows → (b : Refusal) → b ≡ bodyRefusal l index size
+  pub open-rest : lacks ≡ false → (rows : ℕ) → rows ≡ rowsSaid l index size → rows ≤ min most mostRows → (b : Refusal)
+      → b ≡ bodyRefusal l index size
       → first b fine ≡ openRefusal l index size most
   unfolding openRefusal
   open-rest h rows e u b q =
@@ -125,29 +133,41 @@ answered-refused q r e =
     same : Refused q ≡ Refused r → q ≡ r
     same e = cc
 
--- ---- what is opened: nothing on a refusal, else the table
-pub opened-refused : (q : Refusal) (t : Table) → (q .number ≡ 0 → ⊥) → record { answer = Refused q; table = noTable } ≡ openedAs q t
-opened-refused q t h = rw (ne-eqb (q .number) 0 h)
+-- ---- what is opened: nothing on a refusal, else the table and its names
+module _ (q : Refusal) (t : Table) (names : Names) where
+  pub opened-refused : (q .number ≡ 0 → ⊥) → record { answer = Refused q; table = noTable; names = noNames } ≡ openedAs q t names
+  opened-refused h = rw (ne-eqb (q .number) 0 h)
 
-pub opened-accepted : (q : Refusal) (t : Table) → q .number ≡ 0 → record { answer = Accepted; table = t } ≡ openedAs q t
-opened-accepted q t h = rw (eq-eqb (q .number) 0 h)
+  pub opened-accepted : q .number ≡ 0 → record { answer = Accepted; table = t; names = names } ≡ openedAs q t names
+  opened-accepted h = rw (eq-eqb (q .number) 0 h)
 
 module _ (file index : List ℕ) (most : ℕ) (h : Header) (e : h ≡ headerOf file) where
   answer-is : h .answer ≡ answered (headerRefusal file)
   unfolding headerOf
   answer-is = ap (λ (h : Header). h .answer) e
 
-  pub header-refused : (q : Refusal) → h .answer ≡ Refused q → record { answer = Refused q; table = noTable } ≡ openedOf file index most
+  pub header-refused : (q : Refusal) → h .answer ≡ Refused q
+      → record { answer = Refused q; table = noTable; names = noNames } ≡ openedOf file index most
   unfolding openedOf tableRefusal
   header-refused q f =
       let a = answered-refused (headerRefusal file) q (sym answer-is ∙ f) in
       rw (first-refuses (headerRefusal file) (first (openRefusal (headerOf file .layout) index (length file) most) fine) (a .1))
-      (rw (a .0) (opened-refused q (tableFrom (headerOf file .layout) index (length file)) (λ z. a .1 (ap (λ (q : Refusal). q .number) (a .0) ∙ z))))
+      (rw (a .0)
+      (opened-refused q (tableFrom (headerOf file .layout) index (length file)) (headerOf file .names)
+      (λ z. a .1 (ap (λ (q : Refusal). q .number) (a .0) ∙ z))))
 
   pub header-accepted : (r : Opened) → h .answer ≡ Accepted
-      → r ≡ openedAs (first (openRefusal (h .layout) index (length file) most) fine) (tableFrom (h .layout) index (length file)) → r ≡ openedOf file index most
+      → r ≡ openedAs (first (openRefusal (h .layout) index (length file) most) fine) (tableFrom (h .layout) index (length file)) (h .names)
+      → r ≡ openedOf file index most
   unfolding openedOf tableRefusal
   header-accepted r f g =
       let z = answered-accepted (headerRefusal file) (sym answer-is ∙ f) in
-      let o : Layout → Opened = λ l. openedAs (first (openRefusal l index (length file) most) fine) (tableFrom l index (length file)) in
-      rw (first-passes (headerRefusal file) (first (openRefusal (headerOf file .layout) index (length file) most) fine) z) (g ∙ ap (λ (h : Header). o (h .layout)) e)
+      let o : Header → Opened = λ h. openedAs (first (openRefusal (h .layout) index (length file) most) fine)
+      (tableFrom (h .layout) index (length file)) (h .names) in
+      rw (first-passes (headerRefusal file) (first (openRefusal (headerOf file .layout) index (length file) most) fine) z) (g ∙ ap o e)
+
+-- THE COLUMN OF A NAME, found among the names that an opened table gives on
+pub opened-column : (file index : List ℕ) (most : ℕ) → tableRefusal file index most .number ≡ 0 → (name : List ℕ)
+    → columnAmong file (openedOf file index most .names) (openedOf file index most .table .layout .columns) name ≡ columnOf file name
+unfolding openedOf
+opened-column file index most z name = rw (eq-eqb (tableRefusal file index most .number) 0 z) (among-names file name)

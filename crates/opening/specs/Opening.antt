@@ -10,13 +10,13 @@ use Rattle.refusal.specs.declared.Refusal.{Refusal}
 use Rattle.refusal.specs.Order.{refusedIf, located, firstOf}
 use Rattle.number.specs.Bytes.{number}
 use Rattle.header.specs.declared.Layout.{Layout}
+use Rattle.header.specs.declared.Names.{Names}
+use Rattle.header.specs.Names.{noNames}
 use Rattle.header.specs.Judge.{headerRefusal, answered}
 use Rattle.header.specs.Layouts.{headerOf, blankLayout}
+use Rattle.limits.specs.Limits.{mostRows}
 use Rattle.opening.specs.declared.Table.{Table}
 use Rattle.opening.specs.declared.Opened.{Opened}
-
-abbrev pub mostRows : ℕ
-mostRows = 1000000
 
 -- "Otherwise an index is needed": the rows have no one width
 abbrev pub needsIndex : Layout → Bool
@@ -97,10 +97,15 @@ tableFrom l index size = record { layout = l; rows = rowsSaid l index size }
 abbrev pub tableOf : List ℕ → List ℕ → Table
 tableOf file index = tableFrom (headerOf file .layout) index (length file)
 
--- the answer, with the table where nothing is refused
-abbrev pub openedAs : Refusal → Table → Opened
-openedAs q t = record { answer = answered q; table = cond (eqb (q .number) 0) t noTable }
+-- the answer, with the table and its names where nothing is refused
+abbrev pub openedAs : Refusal → Table → Names → Opened
+openedAs q t names =
+    record {
+      answer = answered q;
+      table = cond (eqb (q .number) 0) t noTable;
+      names = cond (eqb (q .number) 0) names noNames;
+    }
 
 -- THE OPENING
 unfoldable pub openedOf : List ℕ → List ℕ → ℕ → Opened
-openedOf file index most = openedAs (tableRefusal file index most) (tableOf file index)
+openedOf file index most = openedAs (tableRefusal file index most) (tableOf file index) (headerOf file .names)

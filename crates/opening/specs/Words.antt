@@ -11,7 +11,8 @@ use Rattle.header.specs.Layouts.{headerOf}
 use Rattle.header.specs.Words.{columnAt, AcceptedHeader}
 use Rattle.header.specs.LayoutWords.{Varies}
 use Rattle.header.specs.Refusals as header
-use Rattle.opening.specs.Opening.{mostRows, entriesSaid, headerSize, offsetAt, lengthAt, rowsSaid}
+use Rattle.limits.specs.Limits.{mostRows}
+use Rattle.opening.specs.Opening.{entriesSaid, headerSize, offsetAt, lengthAt, rowsSaid}
 
 -- ---- when a table opens
 

@@ -1,7 +1,12 @@
 // Opening a table with its lent index: 8 at 0 for a needed index under 8 bytes, 15 for the rows, 7 or 8.
 use header::Answer;
 use header::Layout;
+use header::Names;
+use limits::MOST_ROWS;
+use refusal::OVER_LIMIT;
 use refusal::Refusal;
+use refusal::WRONG_BODY;
+use refusal::WRONG_INDEX;
 ghost use mathlib.Core.Path.{_≡_};
 ghost use mathlib.Core.Bool.{cond, false};
 ghost use Prim.Native.Nat.{min, _-_, _<_};
@@ -10,11 +15,10 @@ ghost use lib.ListN.{length};
 ghost use Rattle.laws.specs.Lowest.{lowest};
 ghost use Rattle.refusal.specs.Order.{fine, first};
 ghost use Rattle.header.specs.declared.Answer.the-variants as answer;
-ghost use Rattle.opening.specs.Opening.{mostRows, needsIndex, endAt, entryWrong, sizeWrong, headWrong, indexRefusal, fixedRefusal};
+ghost use Rattle.header.specs.Names.{noNames};
+ghost use Rattle.limits.specs.Limits.{mostRows};
+ghost use Rattle.opening.specs.Opening.{needsIndex, endAt, entryWrong, sizeWrong, headWrong, indexRefusal, fixedRefusal};
 ghost use Rattle.opening.specs.Opening.{rowsSaid, bodyRefusal, openRefusal, tableFrom, noTable, openedAs, openedOf};
-
-// "15: over 1,000,000 rows"
-pub const MOST_ROWS: usize = 1000000;
 
 // An opened table: what its header says of the rows, and how many there are. Whoever has one may lend it with any file: rows past
 // the millionth and columns past the 64th are not there.
@@ -23,14 +27,12 @@ pub struct Table {
     pub rows: usize,
 }
 
+// The answer, the table, and where the names of its columns lie in the file (`header::column_among` finds one of them).
 pub struct Opened {
     pub answer: Answer,
     pub table: Table,
+    pub names: Names,
 }
-
-const WRONG_BODY: u32 = 7;
-const WRONG_INDEX: u32 = 8;
-const TOO_MANY: u32 = 15;
 
 // The bytes after the header.
 fn body_size(layout: Layout, size: usize) -> usize
@@ -181,33 +183,51 @@ fn judge_opening(index: &[u8], layout: Layout, size: usize, most: usize) -> Refu
     }
     let rows = count_rows(index, layout, size);
     if most_taken(most) < rows {
-        return refusal::refuse(TOO_MANY, 0);
+        return refusal::refuse(OVER_LIMIT, 0);
     }
     refusal::first_of_two(judge_body(index, layout, size), refusal::no_refusal())
 }
 
 // A refused table.
 fn not_opened(q: Refusal) -> Opened
-    ensures { λ r. ⌜ r ≡ record { answer = answer.Refused q; table = noTable } ⌝ }
+    ensures { λ r. ⌜ r ≡ record { answer = answer.Refused q; table = noTable; names = noNames } ⌝ }
 {
     let layout = header::blank_layout();
+    let names = header::no_names();
     let answer = Answer::Refused(q);
-    let table = Table { layout: layout, rows: 0 };
-    Opened { answer: answer, table: table }
+    let table = Table {
+        layout: layout,
+        rows: 0,
+    };
+    Opened {
+        answer: answer,
+        table: table,
+        names: names,
+    }
 }
 
 // A table whose header is accepted.
-fn open_body(index: &[u8], layout: Layout, size: usize, most: usize) -> Opened
-    ensures { λ r. ⌜ r ≡ openedAs (first (openRefusal layout (now (index .entry)) size most) fine) (tableFrom layout (now (index .entry)) size) ⌝ }
+fn open_body(index: &[u8], layout: Layout, names: Names, size: usize, most: usize) -> Opened
+    ensures { λ r. ⌜ r ≡ openedAs (first (openRefusal layout (now (index .entry)) size most) fine) (tableFrom layout (now (index .entry)) size) names ⌝ }
 {
-    let judged = refusal::first_of_two(judge_opening(index, layout, size, most), refusal::no_refusal());
+    let judged = refusal::first_of_two(
+        judge_opening(index, layout, size, most),
+        refusal::no_refusal(),
+    );
     if judged.number != 0 {
         return not_opened(judged);
     }
     let rows = count_rows(index, layout, size);
     let answer = Answer::Accepted;
-    let table = Table { layout: layout, rows: rows };
-    Opened { answer: answer, table: table }
+    let table = Table {
+        layout: layout,
+        rows: rows,
+    };
+    Opened {
+        answer: answer,
+        table: table,
+        names: names,
+    }
 }
 
 // Opens a table with its lent index, for a caller that takes at most so many rows, and never over 1,000,000.
@@ -219,7 +239,8 @@ pub fn open_within(file: &[u8], index: &[u8], most: usize) -> Opened
     match answer {
         Answer::Accepted => {
             let layout = head.layout;
-            return open_body(index, layout, file.len(), most);
+            let names = head.names;
+            return open_body(index, layout, names, file.len(), most);
         }
         Answer::Refused(q) => {
             return not_opened(q);

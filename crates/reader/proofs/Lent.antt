@@ -66,24 +66,32 @@ module _ {M : Type 1} (𝓤 : URA M) (H : Heap 𝓤) (A : Atoms 𝓤) (W : Given
   Back ν = wand 𝓤 (A .lft (ν ∷ []) (PosShare·left q)) (A .lft (ν ∷ []) fullShare)
 
   abbrev pub Lent : Reader → ℕ → GName → Item 𝓤
-  Lent h ν γ = (‵ (MutRef (named 0) (ν ∷ κ) R .own (ref γ h) (vptr l 0 ∷ [])) ⊛ raw (Toks ν)) ⊛ (‵ (flent (ν ∷ κ) (Body (place-of R) l 0 γ)) ⊛ raw (Back ν))
+  Lent h ν γ = (‵ (MutRef (named 0) (ν ∷ κ) R .own (ref γ h) (vptr l 0 ∷ [])) ⊛ raw (Toks ν)) ⊛
+      (‵ (flent (ν ∷ κ) (Body (place-of R) l 0 γ)) ⊛ raw (Back ν))
 
-  pub lies-in : (h : Reader) (v : Val) → ent 𝓤 (sep 𝓤 (sem 𝓤 H A (R .own h (v ∷ []))) (sem 𝓤 H A (fat fullShare (T′.mir erased) l 0 v))) (sem 𝓤 H A (Lies h))
+  pub lies-in : (h : Reader) (v : Val) → ent 𝓤
+      (sep 𝓤 (sem 𝓤 H A (R .own h (v ∷ []))) (sem 𝓤 H A (fat fullShare (T′.mir erased) l 0 v))) (sem 𝓤 H A (Lies h))
   unfolding partOf
   lies-in h v =
-      qed W (‵ (R .own h (v ∷ [])) ∷ ‵ (fat fullShare (T′.mir erased) l 0 v) ∷ []) ∵ move ! (1 ∷ []) $ use1 W (‵ (cellAt fullShare (R .mir) (v ∷ []) l 0)) (W .laws .at-raw fullShare (T′.mir erased) l 0 v) $ fjoin ! $
+      qed W (‵ (R .own h (v ∷ [])) ∷ ‵ (fat fullShare (T′.mir erased) l 0 v) ∷ []) ∵ move ! (1 ∷ []) $
+      use1 W (‵ (cellAt fullShare (R .mir) (v ∷ []) l 0)) (W .laws .at-raw fullShare (T′.mir erased) l 0 v) $ fjoin ! $
       fpack ! (List Val) (λ vs. fsep (cellAt fullShare (R .mir) vs l 0) (R .own h vs)) (v ∷ []) $ done !
 
-  pub lies-out : (h : Reader) → ent 𝓤 (sem 𝓤 H A (Lies h)) (sep 𝓤 (sem 𝓤 H A (fat fullShare (T′.mir erased) l 0 (value-of h))) (sem 𝓤 H A (R .own h (value-of h ∷ []))))
+  pub lies-out : (h : Reader) → ent 𝓤 (sem 𝓤 H A (Lies h))
+      (sep 𝓤 (sem 𝓤 H A (fat fullShare (T′.mir erased) l 0 (value-of h))) (sem 𝓤 H A (R .own h (value-of h ∷ []))))
   unfolding partOf
   lies-out h =
-      qed W (‵ (Lies h) ∷ []) ∵ fpick ! (λ vs. fsplit ! $ spelt ! R (Is R) (shows 𝓤 H A R) (LL.vals (T.the-type α) (T′.the-laws α)) (LL.tells (T.the-type α) (T′.the-laws α)) fullShare h vs l 0 $
+      qed W (‵ (Lies h) ∷ []) ∵ fpick ! (λ vs. fsplit ! $
+      spelt ! R (Is R) (shows 𝓤 H A R) (LL.vals (T.the-type α) (T′.the-laws α))
+      (LL.tells (T.the-type α) (T′.the-laws α)) fullShare h vs l 0 $
       use1 W (‵ (fat fullShare (T′.mir erased) l 0 (value-of h))) (W .laws .raw-at fullShare (T′.mir erased) l 0 (value-of h)) $ done !)
 
-  pub lends-local : (h : Reader) → ent 𝓤 (sep 𝓤 (sem 𝓤 H A (Lies h)) (sep 𝓤 (A .lft κ q) (emp 𝓤))) (H .⇛ (ex 𝓤 (λ (ν : ℕ). ex 𝓤 (λ (γ : GName). mean 𝓤 H A (Lent h ν γ)))))
+  pub lends-local : (h : Reader) → ent 𝓤 (sep 𝓤 (sem 𝓤 H A (Lies h)) (sep 𝓤 (A .lft κ q) (emp 𝓤)))
+      (H .⇛ (ex 𝓤 (λ (ν : ℕ). ex 𝓤 (λ (γ : GName). mean 𝓤 H A (Lent h ν γ)))))
   lends-local h =
       qed W (‵ (Lies h) ∷ (‵ (flft κ q) ⊛ ‵ ftrue) ∷ []) ∵ updating ! $ lft-new ! tt (λ ν. move ! (1 ∷ []) $
-      use1 W (later (some (λ (γ : GName). ‵ (MutRef (named 0) (ν ∷ κ) R .own (ref γ h) (vptr l 0 ∷ [])) ⊛ ‵ (flent (ν ∷ κ) (Body (place-of R) l 0 γ))))) (lends-ref 𝓤 H A W R (named 0) (ν ∷ κ) h l 0) $ await ! tt $ pick ! (λ γ. split ! $
+      use1 W (later (some (λ (γ : GName). ‵ (MutRef (named 0) (ν ∷ κ) R .own (ref γ h) (vptr l 0 ∷ [])) ⊛ ‵
+      (flent (ν ∷ κ) (Body (place-of R) l 0 γ))))) (lends-ref 𝓤 H A W R (named 0) (ν ∷ κ) h l 0) $ await ! tt $ pick ! (λ γ. split ! $
       -- [the reference; the lender's part; ν's token; κ's token]
       move ! (3 ∷ []) $ split ! $ use1 W (‵ (flft κ (PosShare·left q)) ⊛ ‵ (flft κ (PosShare·right q))) (W .lfts .lft-split κ q) $ split ! $
       -- [κ's left; κ's right; …; the reference; the lender's part; ν's token]
@@ -91,44 +99,68 @@ module _ {M : Type 1} (𝓤 : URA M) (H : Heap 𝓤) (A : Atoms 𝓤) (W : Given
       -- [ν's left; the way back; κ's left; κ's right; …; the reference; the lender's part]
       move ! (0 ∷ 2 ∷ []) $ use2 W (‵ (flft (ν ∷ κ) (PosShare·left q))) (W .lfts .lft-meet (ν ∷ []) κ (PosShare·left q)) $
       -- [the loan's token; the way back; κ's right; …; the reference; the lender's part]
-      move ! (2 ∷ 3 ∷ []) $ join ! $ move ! (1 ∷ 0 ∷ []) $ join ! $ move ! (2 ∷ 0 ∷ []) $ join ! $ move ! (2 ∷ 1 ∷ []) $ join ! $ move ! (1 ∷ 0 ∷ []) $
-      at-once ! $ show ! (λ (ν′ : ℕ). ex 𝓤 (λ (γ′ : GName). mean 𝓤 H A (Lent h ν′ γ′))) ν $ show ! (λ (γ′ : GName). mean 𝓤 H A (Lent h ν γ′)) γ $ done !))
+      move ! (2 ∷ 3 ∷ []) $ join ! $ move ! (1 ∷ 0 ∷ []) $ join ! $ move ! (2 ∷ 0 ∷ []) $ join ! $ move ! (2 ∷ 1 ∷ []) $
+      join ! $ move ! (1 ∷ 0 ∷ []) $
+      at-once ! $ show ! (λ (ν′ : ℕ). ex 𝓤 (λ (γ′ : GName). mean 𝓤 H A (Lent h ν′ γ′))) ν $
+      show ! (λ (γ′ : GName). mean 𝓤 H A (Lent h ν γ′)) γ $ done !))
 
   pub local-back : (h : Reader) (ν : ℕ) (γ : GName)
-      → ent 𝓤 (sep 𝓤 (sep 𝓤 (A .lent (ν ∷ κ) (Body (place-of R) l 0 γ)) (A .res γ (R .coded .code h))) (sep 𝓤 (Toks ν) (Back ν))) (H .⇛ (sep 𝓤 (sem 𝓤 H A (Lies h)) (sep 𝓤 (A .lft κ q) (emp 𝓤))))
+      → ent 𝓤 (sep 𝓤 (sep 𝓤 (A .lent (ν ∷ κ) (Body (place-of R) l 0 γ)) (A .res γ (R .coded .code h))) (sep 𝓤 (Toks ν) (Back ν)))
+      (H .⇛ (sep 𝓤 (sem 𝓤 H A (Lies h)) (sep 𝓤 (A .lft κ q) (emp 𝓤))))
   local-back h ν γ =
-      qed W ((‵ (flent (ν ∷ κ) (Body (place-of R) l 0 γ)) ⊛ ‵ (fres γ (R .coded .code h))) ∷ (‵ (flft (ν ∷ κ) (PosShare·left q)) ⊛ (‵ (flft κ (PosShare·right q)) ⊛ ‵ ftrue)) ∷ raw (Back ν) ∷ []) ∵ updating ! $
-      move ! (1 ∷ []) $ split ! $ use1 W (‵ (flft (ν ∷ []) (PosShare·left q)) ⊛ ‵ (flft κ (PosShare·left q))) (W .lfts .lft-unmeet (ν ∷ []) κ (PosShare·left q)) $ split ! $ move ! (2 ∷ []) $ split ! $
+      qed W ((‵ (flent (ν ∷ κ) (Body (place-of R) l 0 γ)) ⊛ ‵ (fres γ (R .coded .code h)))
+      ∷ (‵ (flft (ν ∷ κ) (PosShare·left q)) ⊛ (‵ (flft κ (PosShare·right q)) ⊛ ‵ ftrue)) ∷ raw (Back ν) ∷ []) ∵ updating ! $
+      move ! (1 ∷ []) $ split ! $ use1 W (‵ (flft (ν ∷ []) (PosShare·left q)) ⊛ ‵ (flft κ (PosShare·left q)))
+      (W .lfts .lft-unmeet (ν ∷ []) κ (PosShare·left q)) $ split ! $ move ! (2 ∷ []) $ split ! $
       -- [κ's right; …; ν's left; κ's left; the lender's part with the last value; the way back]
       move ! (3 ∷ 0 ∷ []) $ use2 W (‵ (flft κ q)) (W .lfts .lft-join κ q) $
       -- [κ's token; …; ν's left; the lender's part with the last value; the way back]
-      move ! (2 ∷ 4 ∷ []) $ apply ! $ use1 W (‵ (flft (ν ∷ []) fullShare)) (id⊢ 𝓤 _) $ lft-end ! tt $ use1 W (‵ (fdead (ν ∷ κ))) (W .lfts .dead-incl (ν ∷ κ) (ν ∷ []) (meet-⊑-left (ν ∷ []) κ)) $
+      move ! (2 ∷ 4 ∷ []) $ apply ! $ use1 W (‵ (flft (ν ∷ []) fullShare)) (id⊢ 𝓤 _) $ lft-end ! tt $
+      use1 W (‵ (fdead (ν ∷ κ))) (W .lfts .dead-incl (ν ∷ κ) (ν ∷ []) (meet-⊑-left (ν ∷ []) κ)) $
       -- [ν ∷ κ is dead; κ's token; …; the lender's part with the last value]
-      move ! (3 ∷ []) $ split ! $ move ! (2 ∷ 0 ∷ 1 ∷ []) $ use3 W (later (‵ (Lies h))) (ref-back 𝓤 H A W R (ν ∷ κ) γ h l 0) $ await ! tt $ at-once ! $ done !
+      move ! (3 ∷ []) $ split ! $ move ! (2 ∷ 0 ∷ 1 ∷ []) $
+      use3 W (later (‵ (Lies h))) (ref-back 𝓤 H A W R (ν ∷ κ) γ h l 0) $ await ! tt $ at-once ! $ done !
 
 -- ---- a step of a reader in a local
-module _ {M : Type 1} (𝓤 : URA M) (H : Heap 𝓤) (A : Atoms 𝓤) (W : Given 𝓤 H A) (mem : Memory → SProp 𝓤) (run : Routine → Fun 𝓤) (κ : Lft) (q : Share) (l : ℕ) (h : Reader) where
+module _ {M : Type 1} (𝓤 : URA M) (H : Heap 𝓤) (A : Atoms 𝓤) (W : Given 𝓤 H A) (mem : Memory → SProp 𝓤) (run : Routine → Fun 𝓤)
+    (κ : Lft) (q : Share) (l : ℕ) (h : Reader) where
   abbrev pub StepMeets : Contract 𝓤
   StepMeets = Of 𝓤 H A step.ended (step.clauses 𝓤 H A mem run)
 
   -- what `step` is passed: the reader h at the local l, lent for ν ∷ κ under the name γ
   abbrev pub to-step : ℕ → GName → StepMeets .Ghost
-  to-step ν γ = (((ν ∷ κ, (κ, tt)), (PosShare·left q, (PosShare·right q, tt)), (meet-⊑-right (ν ∷ []) κ, tt), (ref 𝓤 H A W κ q l γ h, tt), (vptr l 0 ∷ [], tt)), tt)
+  to-step ν γ = (
+    (
+      (ν ∷ κ, (κ, tt)),
+      (PosShare·left q, (PosShare·right q, tt)),
+      (meet-⊑-right (ν ∷ []) κ, tt),
+      (ref 𝓤 H A W κ q l γ h, tt),
+      (vptr l 0 ∷ [], tt),
+    ),
+    tt,
+  )
 
   -- the reader's token
   abbrev Tok : SProp 𝓤
   Tok = sep 𝓤 (A .lft κ q) (emp 𝓤)
 
-  pub steps-local : {K : Type 0} {Γ : List (Item 𝓤)} {E : Env 𝓤 H} {C : Calls 𝓤 H} {Λ : Loops 𝓤 H} {xs : List Operand} {Q : Post 𝓤 H} {d : Place} {rest : Code} → K → FmC 𝓤 H (W .laws) C → Triple 𝓤 (C #reader·step) StepMeets
-      → ((ν : ℕ) (γ : GName) → Opds K W (raw (StepMeets .pre (to-step ν γ)) ∷ ‵ (flent (ν ∷ κ) (Body (place-of (R 𝓤 H A W κ q l)) l 0 γ)) ∷ raw (Back 𝓤 H A W κ q l ν) ∷ Γ) E xs (vptr l 0 ∷ []))
-      → ((u : Val) (s : Step) (h′ : Reader) → (s ≡ gives h) × (h′ ≡ moved h) → Is S.the-row s (u ∷ []) → Seq K W (‵ (Lies 𝓤 H A W κ q l h′) ∷ raw Tok ∷ Γ) (lands C Λ E d u rest Q))
+  pub steps-local : {K : Type 0} {Γ : List
+      (Item 𝓤)} {E : Env 𝓤 H} {C : Calls 𝓤 H} {Λ : Loops 𝓤 H} {xs : List Operand} {Q : Post 𝓤 H} {d : Place} {rest : Code} → K → FmC 𝓤 H (W .laws) C → Triple 𝓤 (C #reader·step) StepMeets
+      → ((ν : ℕ) (γ : GName) → Opds K W (raw (StepMeets .pre (to-step ν γ))
+      ∷ ‵ (flent (ν ∷ κ) (Body (place-of (R 𝓤 H A W κ q l)) l 0 γ)) ∷ raw (Back 𝓤 H A W κ q l ν) ∷ Γ) E xs (vptr l 0 ∷ []))
+      → ((u : Val) (s : Step) (h′ : Reader) → (s ≡ gives h) × (h′ ≡ moved h) → Is S.the-row s (u ∷ [])
+      → Seq K W (‵ (Lies 𝓤 H A W κ q l h′) ∷ raw Tok ∷ Γ) (lands C Λ E d u rest Q))
       → Seq K W (‵ (Lies 𝓤 H A W κ q l h) ∷ raw Tok ∷ Γ) (runs C Λ E (seq (call #reader·step xs d) rest) Q)
   steps-local t fm known os k =
-      use2 W (later (some (λ (ν : ℕ). some (λ (γ : GName). Lent 𝓤 H A W κ q l h ν γ)))) (lends-local 𝓤 H A W κ q l h) $ await t tt $ pick t (λ ν. pick t (λ γ. split t $ move t (1 ∷ []) $ split t $ move t (2 ∷ []) $ split t $
-      use2 W (raw (StepMeets .pre (to-step ν γ))) (gives-up 𝓤 H A W (MutRef (named 0) (ν ∷ κ) (R 𝓤 H A W κ q l)) (ref 𝓤 H A W κ q l γ h) (vptr l 0 ∷ []) (Toks 𝓤 H A W κ q l ν)) $
+      use2 W (later (some (λ (ν : ℕ). some (λ (γ : GName). Lent 𝓤 H A W κ q l h ν γ)))) (lends-local 𝓤 H A W κ q l h) $
+      await t tt $ pick t (λ ν. pick t (λ γ. split t $ move t (1 ∷ []) $ split t $ move t (2 ∷ []) $ split t $
+      use2 W (raw (StepMeets .pre (to-step ν γ))) (gives-up 𝓤 H A W (MutRef (named 0) (ν ∷ κ) (R 𝓤 H A W κ q l))
+      (ref 𝓤 H A W κ q l γ h) (vptr l 0 ∷ []) (Toks 𝓤 H A W κ q l ν)) $
       -- [what the callee asks; the lender's part; the way back; …]
-      answers-last t fm step.ended (step.clauses 𝓤 H A mem run) known (to-step ν γ) (λ (s : Step) (ws : Reader × Unit {0}). (s ≡ gives h) × (ws .0 ≡ moved h)) (λ s ws. id⊢ 𝓤 _) (os ν γ) (λ u s ws e is.
+      answers-last t fm step.ended (step.clauses 𝓤 H A mem run) known (to-step ν γ)
+      (λ (s : Step) (ws : Reader × Unit {0}). (s ≡ gives h) × (ws .0 ≡ moved h)) (λ s ws. id⊢ 𝓤 _) (os ν γ) (λ u s ws e is.
       -- [the answer's; the tokens; the last value; the lender's part; the way back; …]
-      move t (2 ∷ []) $ fsplit t $ move t (4 ∷ 0 ∷ 3 ∷ 5 ∷ []) $ join t $ use3 W (later (‵ (Lies 𝓤 H A W κ q l (ws .0)) ⊛ raw Tok)) (local-back 𝓤 H A W κ q l (ws .0) ν γ) $ await t tt $ split t $
+      move t (2 ∷ []) $ fsplit t $ move t (4 ∷ 0 ∷ 3 ∷ 5 ∷ []) $ join t $
+      use3 W (later (‵ (Lies 𝓤 H A W κ q l (ws .0)) ⊛ raw Tok)) (local-back 𝓤 H A W κ q l (ws .0) ν γ) $ await t tt $ split t $
       -- [the reader in memory; its token; nothing; the answer's; …]
       move t (2 ∷ 3 ∷ []) $ drop t $ drop t $ k u s (ws .0) e is)))

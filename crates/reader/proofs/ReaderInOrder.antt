@@ -75,10 +75,12 @@ module _ (file : RefT (List ℕ)) (h : Reading) (a : AcceptedHeader (now file) h
   then-done k l = subst SaysDone (after-steps k) (says-done (readerAt file (place-after k)) (steps-end (now file) h a k l))
 
   -- 13 AT EVERY OTHER PLACE than those that a new reader comes to
-  pub elsewhere : (place : ℕ) → ((k : ℕ) → k ≤ columns → readerAt file place ≡ steps k (opened file) → ⊥) → Refuses (readerAt file place) 13 place
+  pub elsewhere : (place : ℕ) → ((k : ℕ) → k ≤ columns → readerAt file place ≡ steps k (opened file) → ⊥)
+      → Refuses (readerAt file place) 13 place
   elsewhere place none =
       refuses (readerAt file place) 13 place
-      (step-elsewhere (now file) h a place (λ k l e. none k l (ap (readerAt file) (e ∙ sym (place-after-steps (now file) h a k l)) ∙ after-steps k)))
+      (step-elsewhere (now file) h a place (λ k l e.
+      none k l (ap (readerAt file) (e ∙ sym (place-after-steps (now file) h a k l)) ∙ after-steps k)))
 
   -- EXACTLY ONE DEFINITION, at whatever place a reader stands: one that gives a column is where a new reader comes to, and does the same
   pub one-definition : (place : ℕ) (d : Definition) → gives (readerAt file place) ≡ Column d

@@ -4,11 +4,12 @@
 // (2 bytes) and the place (8 bytes).
 ghost use mathlib.Core.Path.{_≡_};
 ghost use Rattle.reader_cases.specs.Trails.{trailOf};
-use header::Span;
+use casefile::say;
+use casefile::say_number;
+use casefile::say_part;
+use casefile::say_refusal;
 use header::Step;
-use libc::STDOUT_FILENO;
 use number::Order;
-use refusal::Refusal;
 
 // What two steps of one reader gave, and where it stands after them.
 struct Trail {
@@ -31,38 +32,10 @@ fn two_steps(file: &[u8]) -> Trail
     }
 }
 
-fn say(text: &[u8]) {
-    io::write_all(STDOUT_FILENO, text);
-}
-
-fn say_number(n: u64) {
-    io::print_decimal(STDOUT_FILENO, n);
-}
-
-fn say_refusal(bad: Refusal) {
-    say(b"refused ");
-    say_number(bad.number as u64);
-    say(b" at ");
-    say_number(bad.place as u64);
-}
-
-// A part of the file, or nothing where it does not lie inside.
-fn say_span(file: &[u8], part: Span) {
-    let start = part.start;
-    let end = part.end;
-    if file.len() < end {
-        return;
-    }
-    if end < start {
-        return;
-    }
-    say(&file[start..end]);
-}
-
 // The name of the column that a step gave, the end, or the refusal.
 fn say_given(file: &[u8], step: Step) {
     match step {
-        Step::Column(d) => say_span(file, d.name),
+        Step::Column(d) => say_part(file, d.name.start, d.name.end),
         Step::Done => say(b"done"),
         Step::Refused(bad) => say_refusal(bad),
     }

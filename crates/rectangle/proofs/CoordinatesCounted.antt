@@ -57,7 +57,8 @@ coordinates-shown binary64 Two o s c at end e = rw e
 coordinates-shown binary64 Three o s c at end e = rw e
 
 -- a part that lies inside what is lent has all its bytes
-part-length : (s : List ℕ) (start end p n : ℕ) → end ≤ length s → PartInside start end (value.Coordinates p n) → length (partOf s (value.Coordinates p n)) ≡ n
+part-length : (s : List ℕ) (start end p n : ℕ) → end ≤ length s → PartInside start end (value.Coordinates p n)
+    → length (partOf s (value.Coordinates p n)) ≡ n
 unfolding partOf
 part-length s start end p n a b = length-take n (drop p s) ∙ omega (arith, length-drop p s, b .0, b .1)
 
@@ -74,7 +75,8 @@ module _ (file index : List ℕ) (most : ℕ) (h : Reading) (n : ℕ) (o : Opens
   abbrev opened : Table
   opened = record { layout = l; rows = n }
 
-  module _ (right : RowRight file l start end i) (k : ℕ) (c : In (l .columns) k) (f : Format) (p : Parts) (e : columnAt l k .kind ≡ typeWith f p) where
+  module _ (right : RowRight file l start end i) (k : ℕ) (c : In (l .columns) k) (f : Format) (p : Parts)
+      (e : columnAt l k .kind ≡ typeWith f p) where
     abbrev at : ℕ
     at = columnPlace file l start end k
 
@@ -84,7 +86,8 @@ module _ (file index : List ℕ) (most : ℕ) (h : Reading) (n : ℕ) (o : Opens
     abbrev whole : end ≤ length file
     whole = inside-file file index most h n o i r
 
-    value-is : valueOf file index opened i k ≡ value.Coordinates (elementsStart (columnAt l k) at end) (elementsBytes (l .order) file (columnAt l k) at)
+    value-is : valueOf file index opened i k ≡ value.Coordinates (elementsStart (columnAt l k) at end)
+        (elementsBytes (l .order) file (columnAt l k) at)
     value-is =
         value-of-row file index most h n o i r right k c file (record { in-first = whole; in-second = whole; same = refl })
         ∙ coordinates-shown f p (l .order) file (columnAt l k) at end e

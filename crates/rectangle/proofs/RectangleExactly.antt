@@ -119,7 +119,8 @@ module _ (file index : List ℕ) (t : Table) (i k : ℕ) where
           ∙ ap (λ (x : Row). inRow x found) e
           ∙ ap (λ (x : FieldType). byType x (l .order) (coordinatesIn file l k start end) k) h
           ∙ by-width f p (l .order) (coordinatesIn file l k start end) k
-          ∙ ap (λ (v : Value). bounded f (boundsOf (coordinates f p (l .order) (partOf file v)))) (sym (v ∙ ap (λ (x : Row). valueInRow x field) e))
+          ∙ ap (λ (v : Value). bounded f (boundsOf (coordinates f p (l .order) (partOf file v))))
+          (sym (v ∙ ap (λ (x : Row). valueInRow x field) e))
 
   -- what an answer means
   abbrev Means : Answer → Type 0
@@ -218,7 +219,8 @@ module _ (file index : List ℕ) (t : Table) (i k : ℕ) where
       no-row : NoRow t i n p → answered ≡ refusedWith (refusal n p)
       no-row w = at-no-row (none-there (rowsOf t) i .1 (w .0)) ∙ refusal-of n p 13 i (w .1) (w .2)
 
-      other : (b : Bool) → noSuchColumn l k ≡ b → RowThere t i → ((ColumnThere t k → ⊥) ⊎ ((f : Format) (q : Parts) → column .kind ≡ typeWith f q → ⊥))
+      other : (b : Bool) → noSuchColumn l k ≡ b → RowThere t i
+          → ((ColumnThere t k → ⊥) ⊎ ((f : Format) (q : Parts) → column .kind ≡ typeWith f q → ⊥))
           → answered ≡ refusedWith (refusal 13 k)
       other true b r w = at-no-column (there (rowsOf t) i r) b
       other false b r w =
@@ -231,12 +233,14 @@ module _ (file index : List ℕ) (t : Table) (i k : ℕ) where
       no-column w = other (noSuchColumn l k) refl (w .0) (w .1) ∙ refusal-of n p 13 k (w .2) (w .3)
 
       row-bad : RowBad file index t i k n p → answered ≡ refusedWith (refusal n p)
-      row-bad w = at-bad (there (rowsOf t) i (w .row)) (there (columnsOf l) k (w .column)) (w .format) (w .parts) (w .kind) (refusal n p) (w .refused)
+      row-bad w = at-bad (there (rowsOf t) i (w .row)) (there (columnsOf l) k (w .column)) (w .format) (w .parts)
+          (w .kind) (refusal n p) (w .refused)
 
       line-bad : LineBad file index t i k n p → answered ≡ refusedWith (refusal n p)
       line-bad w =
           let c = line file index t i k (w .format) (w .parts) in
-          at-line (row-is-there (w .row)) (there (columnsOf l) k (w .column)) (w .format) (w .parts) (w .kind) (w .row .0) (w .row .1) (w .row .2)
+          at-line (row-is-there (w .row)) (there (columnsOf l) k (w .column)) (w .format) (w .parts) (w .kind)
+          (w .row .0) (w .row .1) (w .row .2)
           ∙ ap (bounded (w .format))
           (⊎-elim
           (λ z. exactly.none-exactly c .1 (z .0) ∙ ap (λ (p : ℕ). refused (refusal notFiniteOrNone p)) (sym (z .1)))

@@ -7,8 +7,9 @@ use bounds::Rectangle64;
 use field::FieldType;
 use header::Layout;
 use number::Order;
-use refusal::Refusal;
 use opening::Table;
+use refusal::NO_SUCH;
+use refusal::Refusal;
 use table::Value;
 ghost use mathlib.Core.Path.{_≡_};
 ghost use mathlib.Core.Bool.{false};
@@ -16,9 +17,6 @@ ghost use Rattle.bounds.specs.Bounds.{bounds32, bounds64};
 ghost use Rattle.refusal.specs.Order.{refusal as refused};
 ghost use Rattle.table.specs.Rows.{noSuchColumn, columnAt};
 ghost use Rattle.rectangle.specs.Rectangles.{refusedWith, answer, inShort, inDouble, byType, isCoordinates, refusalOf, foundIn, rectangleOf};
-
-// Refusal 13: no such row or column, or a column without coordinates.
-const NO_SUCH: u32 = 13;
 
 pub enum Found {
     Short(Rectangle32),
@@ -150,7 +148,13 @@ pub fn find_rectangle(file: &[u8], index: &[u8], table: Table, row: usize, colum
     let kind = kind_at(layout, column);
     if has_coordinates(kind) {
         let order = layout.order;
-        return found_in(file, kind, order, column, table::read_value(file, index, table, row, column));
+        return found_in(
+            file,
+            kind,
+            order,
+            column,
+            table::read_value(file, index, table, row, column),
+        );
     }
     no_rectangle(column)
 }

@@ -154,21 +154,30 @@ module _ (P : ℕ → Type 0) (n : ℕ) where
         (λ g.
         inr (
           g .0,
-          rw (g .1 .0)
-              (g .1 .1, record { within = (h .pos, h .within); fails = g .1 .2; below = λ k a l. fine-row k (a, omega (arith, h .within)) (h .below k a l) }),
+          rw (g .1 .0) (
+            g .1 .1,
+            record {
+              within = (h .pos, h .within);
+              fails = g .1 .2;
+              below = λ k a l.
+                  fine-row k (a, omega (arith, h .within)) (h .below k a l);
+            },
+          ),
         ))
         (each r (h .pos, h .within))))
         (lowest-cases (refuses f) n)
 
 -- a test that asks one thing
-pub judged-once : (b : Bool) (m p : ℕ) (P : Type 0) (Q : Type 0) → (m ≡ 0 → ⊥) → (b ≡ false → P) → (b ≡ true → Q) → Judged (refusedIf b m p) P (λ x y. (x ≡ m) × (y ≡ p) × Q)
+pub judged-once : (b : Bool) (m p : ℕ) (P : Type 0) (Q : Type 0) → (m ≡ 0 → ⊥) → (b ≡ false → P) → (b ≡ true → Q)
+    → Judged (refusedIf b m p) P (λ x y. (x ≡ m) × (y ≡ p) × Q)
 judged-once true m p P Q some f g = inr (some, (refl, refl, g refl))
 judged-once false m p P Q some f g = inl (refl, f refl)
 
 -- a test that is made only where b says G
 pub judged-where : (b : Bool) (q : Refusal) (G P : Type 0) (F K : ℕ → ℕ → Type 0) → (b ≡ true) ↔ G → ((n p : ℕ) → G → F n p → K n p)
     → (G → Judged q P F) → Judged (cond b q fine) (G → P) K
-judged-where true q G P F K e k j = let g = e .0 refl in ⊎-elim (λ h. inl (h .0, λ x. h .1)) (λ h. inr (h .0, k (q .number) (q .place) g (h .1))) (j g)
+judged-where true q G P F K e k j = let g = e .0 refl in ⊎-elim (λ h. inl (h .0, λ x. h .1))
+    (λ h. inr (h .0, k (q .number) (q .place) g (h .1))) (j g)
 judged-where false q G P F K e k j = inl (refl, λ g. absurd (true≢false (sym (e .1 g))))
 
 -- a test of one thing that is made only where b says G: it asks P
@@ -176,7 +185,8 @@ module _ (b : Bool) (G : Type 0) (says : (b ≡ true) ↔ G) where
   pub asked-where : (c : Bool) (m p : ℕ) (P Q : Type 0) → (m ≡ 0 → ⊥) → (G → (c ≡ false → P) × (c ≡ true → Q))
       → Judged (cond b (refusedIf c m p) fine) (G → P) (λ x y. (x ≡ m) × (y ≡ p) × G × Q)
   asked-where c m p P Q some f =
-      judged-where b (refusedIf c m p) G P (λ x y. (x ≡ m) × (y ≡ p) × Q) (λ x y. (x ≡ m) × (y ≡ p) × G × Q) says (λ x y g q. (q .0, q .1, g, q .2))
+      judged-where b (refusedIf c m p) G P (λ x y. (x ≡ m) × (y ≡ p) × Q) (λ x y. (x ≡ m) × (y ≡ p) × G × Q) says
+      (λ x y g q. (q .0, q .1, g, q .2))
       (λ g. judged-once c m p P Q some (f g .0) (f g .1))
 
   pub right-where : (c : Bool) (m p : ℕ) (P : Type 0) → (m ≡ 0 → ⊥) → (G → (c ≡ false) ↔ P)

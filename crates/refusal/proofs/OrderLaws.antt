@@ -155,7 +155,8 @@ row-ends f (suc k) h = sym (first-refuses (f (suc k)) fine (h (omega arith)))
 
 pub lowest-ends : (f : ℕ → Refusal) (n : ℕ) → lowestOf f n ≡ firstOf (lowestOf f n ∷ [])
 unfolding lowestOf
-lowest-ends f n = row-ends f (lowest (refuses f) n) (λ a z. omega (arith, ltb-true 0 (f (lowest (refuses f) n) .number) (lowest-pos (refuses f) n a .passes)))
+lowest-ends f n = row-ends f (lowest (refuses f) n)
+    (λ a z. omega (arith, ltb-true 0 (f (lowest (refuses f) n) .number) (lowest-pos (refuses f) n a .passes)))
 
 -- the same for parts of the list, each judged by itself
 pub part-stops : (k l : List Refusal) (q : Refusal) → q ≡ firstOf k → (q .number ≡ 0 → ⊥) → q ≡ firstOf (k ++ l)
@@ -195,7 +196,14 @@ refused-first (a ∷ l) r e n =
     (λ t.
     let z = eqb-true (a .number) 0 t in
     let w = refused-first l r (sym (first-passes a (firstOf l) z) ∙ e) n in
-    record { earlier = a ∷ w .earlier; later = w .later; stands = ap (λ (k : List Refusal). a ∷ k) (w .stands); passed = (z, w .passed); refused = n })
+    record {
+      earlier = a ∷ w .earlier;
+      later = w .later;
+      stands = ap (λ (k : List Refusal). a ∷ k) (w .stands);
+      passed =
+          (z, w .passed);
+      refused = n;
+    })
     (λ t.
     let q : a ≡ r = sym (first-refuses a (firstOf l) (eqb-false (a .number) 0 t)) ∙ e in
     record { earlier = []; later = l; stands = ap (λ (k : Refusal). k ∷ l) q; passed = tt; refused = n })

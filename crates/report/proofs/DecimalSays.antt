@@ -1,5 +1,5 @@
--- What `decimal` writes: digits alone, that say the number (as the header's digits do), the first of them no 0 but of the number 0.
-use mathlib.Core.Path.{_≡_, refl, sym, ap, subst, _∙_}
+-- What `decimal` writes: digits alone, that say the number, the first of them no 0 but of the number 0.
+use mathlib.Core.Path.{_≡_, refl, ap, _∙_}
 use mathlib.Core.Logic.{by-cases}
 use mathlib.Core.List.{List, [], _∷_, _++_}
 use Prim.Native.Nat.{ℕ, zero, suc, _+_, _*_, _-_, _/_, _%_, _^_, _≤_, _<_}
@@ -7,33 +7,37 @@ use native.Mathlib.Decide.{decLt}
 use native.Mathlib.Omega.{arith}
 use lib.ListN.{length, getD, length-append, List·getD-append}
 use lib.Seq.{getD-at}
-use Rattle.header.specs.Places as header
 use Rattle.report.specs.Text.{digit, spelled, mostDigits, decimal}
 use Rattle.report.proofs.DecimalLaws.{spelled-one, spelled-more, tenth-below}
 
+-- the number that digits say, on top of `acc`
+abbrev pub said : ℕ → List ℕ → ℕ
+said acc [] = acc
+said acc (d ∷ l) = said (acc * 10 + (d - 48)) l
+
 -- digits behind others say on top of what those said
-says-append : (a b : List ℕ) (acc : ℕ) → header.decimal acc (a ++ b) ≡ header.decimal (header.decimal acc a) b
+says-append : (a b : List ℕ) (acc : ℕ) → said acc (a ++ b) ≡ said (said acc a) b
 says-append [] b acc = refl
 says-append (d ∷ a) b acc = says-append a b (acc * 10 + (d - 48))
 
-one-says : (m n : ℕ) → n < 10 → header.decimal 0 (spelled (suc m) n) ≡ n
+one-says : (m n : ℕ) → n < 10 → said 0 (spelled (suc m) n) ≡ n
 one-says m n h =
     let q : 0 * 10 + (digit n - 48) ≡ n = omega arith in
-    ap (header.decimal 0) (spelled-one m n h) ∙ q
+    ap (said 0) (spelled-one m n h) ∙ q
 
-spelled-says : (m n : ℕ) → n < 10 ^ suc m → header.decimal 0 (spelled (suc m) n) ≡ n
+spelled-says : (m n : ℕ) → n < 10 ^ suc m → said 0 (spelled (suc m) n) ≡ n
 spelled-says zero n h = one-says 0 n h
 spelled-says (suc m) n h =
     by-cases (decLt n 10) (one-says (suc m) n)
     (λ c.
     let q : n / 10 * 10 + (digit (n % 10) - 48) ≡ n = omega arith in
-    ap (header.decimal 0) (spelled-more (suc m) n (omega arith))
+    ap (said 0) (spelled-more (suc m) n (omega arith))
     ∙ says-append (spelled (suc m) (n / 10)) (digit (n % 10) ∷ []) 0
     ∙ ap (λ (k : ℕ). k * 10 + (digit (n % 10) - 48)) (spelled-says m (n / 10) (tenth-below (suc m) n h))
     ∙ q)
 
 -- THE DIGITS SAY THE NUMBER
-pub decimal-says : (n : ℕ) → n < 10 ^ mostDigits → header.decimal 0 (decimal n) ≡ n
+pub decimal-says : (n : ℕ) → n < 10 ^ mostDigits → said 0 (decimal n) ≡ n
 unfolding decimal
 decimal-says n h = spelled-says 19 n h
 
@@ -57,7 +61,8 @@ spelled-digits (suc m) n k h =
     alone : n < 10 → k < length (digit n ∷ []) → IsDigit (getD (digit n ∷ []) k 0)
     alone c h = let q : k ≡ 0 = omega arith in rw q (omega arith, omega arith)
 
-    behind : (l : List ℕ) → ((j : ℕ) → j < length l → IsDigit (getD l j 0)) → k < length (l ++ (digit (n % 10) ∷ [])) → IsDigit (getD (l ++ (digit (n % 10) ∷ [])) k 0)
+    behind : (l : List ℕ) → ((j : ℕ) → j < length l → IsDigit (getD l j 0)) → k < length (l ++ (digit (n % 10) ∷ []))
+        → IsDigit (getD (l ++ (digit (n % 10) ∷ [])) k 0)
     behind l all h =
         by-cases (decLt k (length l))
         (λ c. rw (List·getD-append l (digit (n % 10) ∷ []) 0 k c) (all k c))

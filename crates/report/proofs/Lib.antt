@@ -2,6 +2,4 @@ pub mod DecimalLaws
 pub mod NumberWritten
 pub mod LineFits
 pub mod DecimalSays
-pub mod RingOrFace
 pub mod Examples
-pub mod TripletShown

@@ -1,17 +1,17 @@
 -- Every line fits the room that is asked for it, whatever its numbers; and a line written piece by piece is the whole line.
-use mathlib.Core.Path.{_≡_, refl, ap, _∙_}
-use mathlib.Core.List.{List, [], _∷_, _++_}
+use mathlib.Core.Path.{_≡_, refl, _∙_}
+use mathlib.Core.List.{List, _∷_, _++_, append-assoc}
 use Prim.Native.Nat.{ℕ, _+_, _≤_, _<_}
 use native.Mathlib.Omega.{arith}
 use borrow.Author.Tests.{le-ltb}
 use lib.ListN.{length, length-append}
+use lib.Seq.{sets}
 use Rattle.laws.specs.Serving.Pieces.{Begun}
-use Rattle.laws.proofs.PieceLaws.{begun-front}
+use Rattle.laws.proofs.PieceLaws.{begun-more, begun-front}
 use Rattle.refusal.specs.declared.Refusal.{Refusal}
 use Rattle.load.specs.declared.Counts.{Counts}
 use Rattle.report.specs.declared.FileName.{FileName}
 use Rattle.report.specs.declared.FileName.the-variants.{Edg, Edx, Fac, Rng, Cnd, Cnx}
-use Rattle.report.specs.Text.{decimal}
 use Rattle.report.specs.Lines.{fileText, refuseLine, acceptLine, ringLine, stepsLine, lineRoom, told, bytesTold}
 use Rattle.report.proofs.DecimalLaws.{decimal-short, decimal-few}
 
@@ -45,6 +45,11 @@ ring-short row face steps a b c = simp length-append (omega (arith, decimal-few 
 pub steps-fits : (n : ℕ) → length (stepsLine n) ≤ lineRoom
 unfolding stepsLine
 steps-fits n = simp length-append (omega (arith, decimal-short n))
+
+-- a text and a number behind it, written as one piece
+pub begun-named : {d text e : List ℕ} {at : ℕ} (words number : List ℕ) {e′ : List ℕ} {at′ : ℕ} → Begun d text at e
+    → at′ ≡ at + length (words ++ number) → e′ ≡ sets e at (words ++ number) → Begun d ((text ++ words) ++ number) at′ e′
+begun-named {text = text} words number b p h = rw (append-assoc text words number) (begun-more (words ++ number) b p h)
 
 -- the pieces are the line's, and the buffer has room for it
 pub line-written : {d text e : List ℕ} {at : ℕ} (line : List ℕ) → Begun d text at e → text ≡ line → length line ≤ lineRoom → lineRoom ≤ length d

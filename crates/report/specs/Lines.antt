@@ -4,6 +4,7 @@ use mathlib.Core.List.{List, [], _∷_, _++_}
 use Prim.Native.Nat.{ℕ}
 use lib.Dec.{ltb}
 use lib.ListN.{length, drop}
+use Rattle.laws.specs.Texts.{bytes}
 use Rattle.refusal.specs.declared.Refusal.{Refusal}
 use Rattle.load.specs.declared.Counts.{Counts}
 use Rattle.report.specs.declared.FileName.{FileName}
@@ -11,37 +12,36 @@ use Rattle.report.specs.declared.FileName.the-variants.{Edg, Edx, Fac, R
 use Rattle.report.specs.Text.{decimal, space, lineEnd}
 
 abbrev pub fileText : FileName → List ℕ
-fileText Edg = 101 ∷ 100 ∷ 103 ∷ []
-fileText Edx = 101 ∷ 100 ∷ 120 ∷ []
-fileText Fac = 102 ∷ 97 ∷ 99 ∷ []
-fileText Rng = 114 ∷ 110 ∷ 103 ∷ []
-fileText Cnd = 99 ∷ 110 ∷ 100 ∷ []
-fileText Cnx = 99 ∷ 110 ∷ 120 ∷ []
+fileText Edg = bytes "edg"
+fileText Edx = bytes "edx"
+fileText Fac = bytes "fac"
+fileText Rng = bytes "rng"
+fileText Cnd = bytes "cnd"
+fileText Cnx = bytes "cnx"
 
--- `REFUSE `, `ACCEPT nodes `, ` edges `, ` faces `, ` rings `, `ring `, ` face `, ` steps `, `steps `
 abbrev pub refuseText : List ℕ
-refuseText = 82 ∷ 69 ∷ 70 ∷ 85 ∷ 83 ∷ 69 ∷ 32 ∷ []
+refuseText = bytes "REFUSE "
 
 abbrev pub acceptText : List ℕ
-acceptText = 65 ∷ 67 ∷ 67 ∷ 69 ∷ 80 ∷ 84 ∷ 32 ∷ 110 ∷ 111 ∷ 100 ∷ 101 ∷ 115 ∷ 32 ∷ []
+acceptText = bytes "ACCEPT nodes "
 
 abbrev pub edgesText : List ℕ
-edgesText = 32 ∷ 101 ∷ 100 ∷ 103 ∷ 101 ∷ 115 ∷ 32 ∷ []
+edgesText = bytes " edges "
 
 abbrev pub facesText : List ℕ
-facesText = 32 ∷ 102 ∷ 97 ∷ 99 ∷ 101 ∷ 115 ∷ 32 ∷ []
+facesText = bytes " faces "
 
 abbrev pub ringsText : List ℕ
-ringsText = 32 ∷ 114 ∷ 105 ∷ 110 ∷ 103 ∷ 115 ∷ 32 ∷ []
+ringsText = bytes " rings "
 
 abbrev pub ringText : List ℕ
-ringText = 114 ∷ 105 ∷ 110 ∷ 103 ∷ 32 ∷ []
+ringText = bytes "ring "
 
 abbrev pub faceText : List ℕ
-faceText = 32 ∷ 102 ∷ 97 ∷ 99 ∷ 101 ∷ 32 ∷ []
+faceText = bytes " face "
 
 abbrev pub stepsText : List ℕ
-stepsText = 115 ∷ 116 ∷ 101 ∷ 112 ∷ 115 ∷ 32 ∷ []
+stepsText = bytes "steps "
 
 -- `REFUSE edg 23 2`: file, number, place
 unfoldable pub refuseLine : FileName → Refusal → List ℕ

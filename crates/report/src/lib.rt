@@ -1,24 +1,13 @@
-// What the program writes: which file a refusal speaks of, and the bytes of each line.
-use header::Layout;
+// What the program writes: the bytes of each line.
 use load::Counts;
-use load::Finding;
-use load::TableName;
 use refusal::Refusal;
 ghost use mathlib.Core.Path.{_≡_};
-ghost use mathlib.Core.List.{[], _∷_};
-ghost use Prim.Native.Nat.{min, _+_, _≤_, _<_};
+ghost use mathlib.Core.List.{[], _∷_, _++_};
+ghost use Prim.Native.Nat.{_+_, _≤_, _<_};
 ghost use lib.ListN.{length};
 ghost use lib.Seq.{sets};
-ghost use Rattle.header.specs.Judge.{mostColumns};
-ghost use Rattle.load.specs.declared.TableName.the-variants.{Cnd};
 ghost use Rattle.report.specs.Text.{digit, mostDigits, decimal};
-ghost use Rattle.report.specs.Files.{tooLarge, hasTriplet, showsTriplet, ofTable, ofIndex, fileOfFinding, ringRow, fileOfVerdict};
 ghost use Rattle.report.specs.Lines.{fileText, refuseLine, acceptLine, ringLine, stepsLine, bytesTold, told};
-
-// "each at most 65,536 bytes, with at most 1,000 rows per table"
-pub const MOST_BYTES: usize = 65536;
-
-pub const MOST_ROWS: usize = 1000;
 
 // Room for every line, whatever its numbers: the longest has 115 bytes. A buffer that has less is left as it is, and no line is told.
 pub const LINE_ROOM: usize = 128;
@@ -31,186 +20,6 @@ pub enum FileName {
     Cnd,
     Cnx,
 }
-
-// How many bytes each file is said to have; any number above 65,536 stands for a larger file.
-pub struct Sizes {
-    pub edg: usize,
-    pub edx: usize,
-    pub fac: usize,
-    pub rng: usize,
-    pub cnd: usize,
-    pub cnx: usize,
-}
-
-// The first file that is at fault, if any.
-pub enum AtFault {
-    Is(FileName),
-    Nothing,
-}
-
-// Refusal 8: an index rule is broken.
-const INDEX_BROKEN: u32 = 8;
-
-// Refusal 27: a node's first_edge.
-const FIRST_EDGE_WRONG: u32 = 27;
-
-// Refusal 28: a ring's face, or a face's run of ring rows.
-const RING_ROWS_WRONG: u32 = 28;
-
-// Refusal 29: a ring's start.
-const START_WRONG: u32 = 29;
-
-// Refusal 30: a cycle that an earlier ring owns.
-const CYCLE_OWNED: u32 = 30;
-
-// The first file that is too large, in document 01's order; cnx only where it is read.
-pub fn too_large(sizes: Sizes, cnx_read: bool) -> AtFault
-    ensures { λ r. ⌜ r ≡ tooLarge sizes «cnx_read» ⌝ }
-{
-    if MOST_BYTES < sizes.edg {
-        return AtFault::Is(FileName::Edg);
-    }
-    if MOST_BYTES < sizes.edx {
-        return AtFault::Is(FileName::Edx);
-    }
-    if MOST_BYTES < sizes.fac {
-        return AtFault::Is(FileName::Fac);
-    }
-    if MOST_BYTES < sizes.rng {
-        return AtFault::Is(FileName::Rng);
-    }
-    if MOST_BYTES < sizes.cnd {
-        return AtFault::Is(FileName::Cnd);
-    }
-    if cnx_read {
-        if MOST_BYTES < sizes.cnx {
-            return AtFault::Is(FileName::Cnx);
-        }
-    }
-    AtFault::Nothing
-}
-
-// The columns that a layout has, whoever made it.
-fn column_count(columns: usize) -> usize
-    ensures { λ r. ⌜ r ≡ min columns mostColumns ⌝ }
-{
-    if header::MOST_COLUMNS < columns {
-        return header::MOST_COLUMNS;
-    }
-    columns
-}
-
-// Whether one of the columns is a triplet.
-fn has_triplet(layout: Layout) -> bool
-    ensures { λ r. ⌜ r ≡ hasTriplet layout ⌝ }
-{
-    let n = column_count(layout.columns);
-    let mut k = 0;
-    while k < n {
-        let column = layout.cols[k];
-        let kind = column.kind;
-        if kind.is_triplet() {
-            return true;
-        }
-        k += 1;
-    }
-    false
-}
-
-// "cnx if K occurs": whether the header of cnd is accepted and shows K.
-pub fn shows_triplet(cnd: &[u8]) -> bool
-    ensures { λ r. ⌜ r ≡ showsTriplet (now (cnd .entry)) ⌝ }
-{
-    let read = header::read_header(cnd);
-    let layout = read.layout;
-    has_triplet(layout)
-}
-
-// The file of the table itself.
-fn of_table(table: TableName) -> FileName
-    ensures { λ r. ⌜ r ≡ ofTable table ⌝ }
-{
-    match table {
-        TableName::Edg => FileName::Edg,
-        TableName::Fac => FileName::Fac,
-        TableName::Rng => FileName::Rng,
-        TableName::Cnd => FileName::Cnd,
-    }
-}
-
-// The file of a node table's index, where it was read, or else of the table.
-fn of_node_index(cnx_read: bool) -> FileName
-    ensures { λ r. ⌜ r ≡ ofIndex «cnx_read» Cnd ⌝ }
-{
-    if cnx_read {
-        return FileName::Cnx;
-    }
-    FileName::Cnd
-}
-
-// The file of the table's index, where that file was read.
-fn of_index(cnx_read: bool, table: TableName) -> FileName
-    ensures { λ r. ⌜ r ≡ ofIndex «cnx_read» table ⌝ }
-{
-    match table {
-        TableName::Edg => FileName::Edx,
-        TableName::Fac => FileName::Fac,
-        TableName::Rng => FileName::Rng,
-        TableName::Cnd => of_node_index(cnx_read),
-    }
-}
-
-// The file that a refusal of loading speaks of: for 8 the index where it was read, else the table.
-pub fn file_of_finding(cnx_read: bool, found: Finding) -> FileName
-    ensures { λ r. ⌜ r ≡ fileOfFinding «cnx_read» found ⌝ }
-{
-    let table = found.table;
-    if found.refusal.number == INDEX_BROKEN {
-        return of_index(cnx_read, table);
-    }
-    of_table(table)
-}
-
-// Whether the place is a ring row whose face is out of range.
-fn is_ring_row(fac_id: &[u32], faces: usize, place: usize) -> bool
-    ensures { λ r. ⌜ r ≡ ringRow (now («fac_id» .entry)) faces place ⌝ }
-{
-    if place == 0 {
-        return false;
-    }
-    if fac_id.len() < place {
-        return false;
-    }
-    let face = side::row(fac_id, place) as usize;
-    if face == 0 {
-        return true;
-    }
-    faces < face
-}
-
-// The file that a refusal of the check speaks of, in a tile with these ring faces and so many faces.
-pub fn file_of_verdict(fac_id: &[u32], faces: usize, refused: Refusal) -> FileName
-    ensures { λ r. ⌜ r ≡ fileOfVerdict (now («fac_id» .entry)) faces refused ⌝ }
-{
-    if refused.number == FIRST_EDGE_WRONG {
-        return FileName::Cnd;
-    }
-    if refused.number == RING_ROWS_WRONG {
-        if is_ring_row(fac_id, faces, refused.place) {
-            return FileName::Rng;
-        }
-        return FileName::Fac;
-    }
-    if refused.number == START_WRONG {
-        return FileName::Rng;
-    }
-    if refused.number == CYCLE_OWNED {
-        return FileName::Rng;
-    }
-    FileName::Edg
-}
-
-const SPACE: u8 = b' ';
 
 // "every line ends with one LF"
 const LINE_END: u8 = b'\n';
@@ -260,8 +69,18 @@ fn put_number(out: &mut [u8], at: usize, n: usize) -> usize
     put_byte(out, next, digit_of(n % 10))
 }
 
+// A text and a number behind it, written at a place; the place after them.
+fn put_named(out: &mut [u8], at: usize, text: &[u8], n: usize) -> usize
+    requires { ⌜ at + (length (now text) + mostDigits) ≤ length (now out) ⌝ }
+    ensures { λ r. ⌜ (r ≡ at + length (now (text .entry) ++ decimal n)) × (r ≤ at + (length (now (text .entry)) + mostDigits)) ⌝ }
+    ensures { λ r. ⌜ now (out .exit) ≡ sets (now (out .entry)) at (now (text .entry) ++ decimal n) ⌝ }
+{
+    let next = put_text(out, at, text);
+    put_number(out, next, n)
+}
+
 // The name of a file.
-fn name_of(file: FileName) -> [u8; 3]
+pub fn name_of(file: FileName) -> [u8; 3]
     ensures { λ r. ⌜ r ≡ fileText file ⌝ }
 {
     match file {
@@ -285,10 +104,8 @@ pub fn refuse_line(file: FileName, refused: Refusal, out: &mut [u8]) -> usize
     let name = name_of(file);
     let mut at = put_text(out, 0, b"REFUSE ");
     at = put_text(out, at, &name);
-    at = put_byte(out, at, SPACE);
-    at = put_number(out, at, refused.number as usize);
-    at = put_byte(out, at, SPACE);
-    at = put_number(out, at, refused.place);
+    at = put_named(out, at, b" ", refused.number as usize);
+    at = put_named(out, at, b" ", refused.place);
     put_byte(out, at, LINE_END)
 }
 
@@ -300,14 +117,10 @@ pub fn accept_line(counts: Counts, out: &mut [u8]) -> usize
     if out.len() < LINE_ROOM {
         return 0;
     }
-    let mut at = put_text(out, 0, b"ACCEPT nodes ");
-    at = put_number(out, at, counts.nodes);
-    at = put_text(out, at, b" edges ");
-    at = put_number(out, at, counts.edges);
-    at = put_text(out, at, b" faces ");
-    at = put_number(out, at, counts.faces);
-    at = put_text(out, at, b" rings ");
-    at = put_number(out, at, counts.rings);
+    let mut at = put_named(out, 0, b"ACCEPT nodes ", counts.nodes);
+    at = put_named(out, at, b" edges ", counts.edges);
+    at = put_named(out, at, b" faces ", counts.faces);
+    at = put_named(out, at, b" rings ", counts.rings);
     put_byte(out, at, LINE_END)
 }
 
@@ -319,12 +132,9 @@ pub fn ring_line(row: usize, face: u32, steps: usize, out: &mut [u8]) -> usize
     if out.len() < LINE_ROOM {
         return 0;
     }
-    let mut at = put_text(out, 0, b"ring ");
-    at = put_number(out, at, row);
-    at = put_text(out, at, b" face ");
-    at = put_number(out, at, face as usize);
-    at = put_text(out, at, b" steps ");
-    at = put_number(out, at, steps);
+    let mut at = put_named(out, 0, b"ring ", row);
+    at = put_named(out, at, b" face ", face as usize);
+    at = put_named(out, at, b" steps ", steps);
     put_byte(out, at, LINE_END)
 }
 
@@ -336,7 +146,6 @@ pub fn steps_line(n: usize, out: &mut [u8]) -> usize
     if out.len() < LINE_ROOM {
         return 0;
     }
-    let mut at = put_text(out, 0, b"steps ");
-    at = put_number(out, at, n);
+    let at = put_named(out, 0, b"steps ", n);
     put_byte(out, at, LINE_END)
 }

@@ -40,12 +40,14 @@ module _ (t : Edges) (r : Successor) where
   unfolding leavingEdge
   chosen k v f sn en rf lf z h p q x y e = rw (ne-eqb k 0 z, le-ltb (edgeCount t) k h) (e ∙ (λ i. leaving (p i) (q i) (x i) (y i) k v f))
 
-  pub right-follows : (s k v f : ℕ) → s % 2 ≡ 1 → k ≡ entry (t .rightEdge) (edgeOf s) → v ≡ entry (t .endNode) (edgeOf s) → f ≡ entry (t .rightFace) (edgeOf s)
+  pub right-follows : (s k v f : ℕ) → s % 2 ≡ 1 → k ≡ entry (t .rightEdge) (edgeOf s)
+      → v ≡ entry (t .endNode) (edgeOf s) → f ≡ entry (t .rightFace) (edgeOf s)
       → r ≡ leavingEdge t k v f → r ≡ successor t s
   unfolding successor
   right-follows s k v f h p q x e = rw (eq-eqb (s % 2) 1 h) (e ∙ (λ i. leavingEdge t (p i) (q i) (x i)))
 
-  pub left-follows : (s k v f : ℕ) → (s % 2 ≡ 1 → ⊥) → k ≡ entry (t .leftEdge) (edgeOf s) → v ≡ entry (t .startNode) (edgeOf s) → f ≡ entry (t .leftFace) (edgeOf s)
+  pub left-follows : (s k v f : ℕ) → (s % 2 ≡ 1 → ⊥) → k ≡ entry (t .leftEdge) (edgeOf s)
+      → v ≡ entry (t .startNode) (edgeOf s) → f ≡ entry (t .leftFace) (edgeOf s)
       → r ≡ leavingEdge t k v f → r ≡ successor t s
   unfolding successor
   left-follows s k v f h p q x e = rw (ne-eqb (s % 2) 1 h) (e ∙ (λ i. leavingEdge t (p i) (q i) (x i)))

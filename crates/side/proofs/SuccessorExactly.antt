@@ -6,7 +6,7 @@ use mathlib.Core.Bool.{true, false, true≢false}
 use Prim.Native.Nat.{ℕ, _*_, _-_, _%_, _≤_, _<_}
 use native.Mathlib.Decide.{ℕ-discrete}
 use native.Mathlib.Omega.{arith}
-use borrow.Author.Tests.{eq-eqb, ne-eqb, eqb-true, eqb-false, le-ltb, ltb-false}
+use borrow.Author.Tests.{eq-eqb, ne-eqb, eqb-true, eqb-false}
 use lib.Dec.{eqb, ltb}
 use Rattle.laws.specs.Orbit.{entry}
 use Rattle.laws.proofs.LowestLaws.{bool-cases}
@@ -57,7 +57,8 @@ module _ (k : ℕ) (pos : 0 < k) where
       leaves-left : entry (t .endNode) k ≡ v → entry (t .leftFace) k ≡ f → Leaves t k v f (left k)
       leaves-left a b = record { linked = edge-of-left; from = from-of-left ∙ a; bears = face-of-left ∙ b }
 
-      touches : (u : ℕ) → edgeOf u ≡ k → leavesFrom t u ≡ v → ((u ≡ right k) × (entry (t .startNode) k ≡ v)) ⊎ ((u ≡ left k) × (entry (t .endNode) k ≡ v))
+      touches : (u : ℕ) → edgeOf u ≡ k → leavesFrom t u ≡ v
+          → ((u ≡ right k) × (entry (t .startNode) k ≡ v)) ⊎ ((u ≡ left k) × (entry (t .endNode) k ≡ v))
       touches u e l =
           ⊎-elim
           (λ q. inl (q, sym from-of-right ∙ ap (leavesFrom t) (sym q) ∙ l))
@@ -65,7 +66,8 @@ module _ (k : ℕ) (pos : 0 < k) where
           (right-or-left u e)
 
       leaves : (u : ℕ) → Leaves t k v f u
-          → ((u ≡ right k) × (entry (t .startNode) k ≡ v) × (entry (t .rightFace) k ≡ f)) ⊎ ((u ≡ left k) × (entry (t .endNode) k ≡ v) × (entry (t .leftFace) k ≡ f))
+          → ((u ≡ right k) × (entry (t .startNode) k ≡ v) × (entry (t .rightFace) k ≡ f)) ⊎
+          ((u ≡ left k) × (entry (t .endNode) k ≡ v) × (entry (t .leftFace) k ≡ f))
       leaves u h =
           ⊎-elim
           (λ q. inl (q .0, q .1, sym face-of-right ∙ ap (face t) (sym (q .0)) ∙ h .bears))
@@ -153,7 +155,8 @@ one-answer t s (Wrong n) (Wrong m) (inr a) (inr b) = ap Wrong (one-fault t s (a 
 -- THE WORDS OF THE SUCCESSOR'S ANSWER hold
 module _ (t : Edges) (s : ℕ) where
   in-words : (l : LinkIn t s) (c : Successor)
-      → Departs (entry (t .startNode) (link t s)) (entry (t .endNode) (link t s)) (entry (t .rightFace) (link t s)) (entry (t .leftFace) (link t s)) (link t s) (runsTo t s) (face t s) c
+      → Departs (entry (t .startNode) (link t s)) (entry (t .endNode) (link t s)) (entry (t .rightFace) (link t s))
+      (entry (t .leftFace) (link t s)) (link t s) (runsTo t s) (face t s) c
       → Says t s c
   in-words l c (by-right a b none) = record {
     edge = l;
@@ -175,7 +178,11 @@ module _ (t : Edges) (s : ℕ) where
       (λ q. inr (l, other-face (left (link t s)) (edge-of-left (link t s) (l .0)) (from-of-left (link t s) (l .0) t ∙ q) none))
       e
   in-words l c (by-both a b d e) =
-      inr (l, both-sides (leaves-right (link t s) (l .0) t (runsTo t s) (face t s) a b) (leaves-left (link t s) (l .0) t (runsTo t s) (face t s) d e))
+      inr (
+        l,
+        both-sides (leaves-right (link t s) (l .0) t (runsTo t s) (face t s) a b)
+            (leaves-left (link t s) (l .0) t (runsTo t s) (face t s) d e),
+      )
 
   pub says : Says t s (successor t s)
   unfolding successor leavingEdge

@@ -1,5 +1,5 @@
 -- "Edge e has two sides: right is number 2e-1, left is 2e." Rows and sides count from 1; 0 is none.
-use mathlib.Core.Bool.{Bool, true, false, cond, _||_}
+use mathlib.Core.Bool.{Bool, cond, _||_}
 use mathlib.Core.List.{List}
 use Prim.Native.Nat.{ℕ, _+_, _*_, _-_, _/_, _%_}
 use lib.Dec.{eqb, ltb}

@@ -1,4 +1,8 @@
 // The sides of a tile's edges, and the successor of a side.
+use refusal::EDGE_OUT_OF_RANGE;
+use refusal::FACE_DIFFERS;
+use refusal::LOOP_OF_ONE_FACE;
+use refusal::NOT_TOUCHING;
 ghost use mathlib.Core.Path.{_≡_};
 ghost use Prim.Native.Nat.{_<_};
 ghost use Rattle.laws.specs.Orbit.{entry};
@@ -39,27 +43,27 @@ fn choose(
         if end_node == node {
             if right_face == face {
                 if left_face == face {
-                    return Successor::Wrong(25);
+                    return Successor::Wrong(LOOP_OF_ONE_FACE);
                 }
                 return Successor::Side(2 * edge - 1);
             }
             if left_face == face {
                 return Successor::Side(2 * edge);
             }
-            return Successor::Wrong(24);
+            return Successor::Wrong(FACE_DIFFERS);
         }
         if right_face == face {
             return Successor::Side(2 * edge - 1);
         }
-        return Successor::Wrong(24);
+        return Successor::Wrong(FACE_DIFFERS);
     }
     if end_node == node {
         if left_face == face {
             return Successor::Side(2 * edge);
         }
-        return Successor::Wrong(24);
+        return Successor::Wrong(FACE_DIFFERS);
     }
-    Successor::Wrong(23)
+    Successor::Wrong(NOT_TOUCHING)
 }
 
 // The side of the edge k that leaves from the node with the face.
@@ -74,15 +78,15 @@ fn follow(
     node: u32,
     face: u32,
 ) -> Successor
-    ensures { λ r. ⌜ r ≡ leavingEdge (edges (now («start_node» .entry)) (now («end_node» .entry)) (now («right_face» .entry)) (now
-            («left_face» .entry)) (now («right_edge» .entry)) (now («left_edge» .entry))) k node face ⌝ }
+    ensures { λ r. ⌜ r ≡ leavingEdge (edges (now («start_node» .entry)) (now («end_node» .entry)) (now («right_face» .entry))
+        (now («left_face» .entry)) (now («right_edge» .entry)) (now («left_edge» .entry))) k node face ⌝ }
 {
     let e = k as usize;
     if e == 0 {
-        return Successor::Wrong(22);
+        return Successor::Wrong(EDGE_OUT_OF_RANGE);
     }
     if start_node.len() < e {
-        return Successor::Wrong(22);
+        return Successor::Wrong(EDGE_OUT_OF_RANGE);
     }
     choose(
         row(start_node, e),
@@ -107,8 +111,8 @@ pub fn next_side(
     left_edge: &[u32],
     s: usize,
 ) -> Successor
-    ensures { λ r. ⌜ r ≡ successor (edges (now («start_node» .entry)) (now («end_node» .entry)) (now («right_face» .entry)) (now
-            («left_face» .entry)) (now («right_edge» .entry)) (now («left_edge» .entry))) s ⌝ }
+    ensures { λ r. ⌜ r ≡ successor (edges (now («start_node» .entry)) (now («end_node» .entry)) (now («right_face» .entry))
+        (now («left_face» .entry)) (now («right_edge» .entry)) (now («left_edge» .entry))) s ⌝ }
 {
     let e = s / 2 + s % 2;
     if s % 2 == 1 {

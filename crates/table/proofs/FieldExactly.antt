@@ -1,11 +1,10 @@
 -- Where a field ends, in words, by its type; and that the walk over a row's columns finds their places exactly where the fields follow
 -- one another so.
 use mathlib.Core.Path.{_≡_, refl, sym, ap, _∙_}
-use mathlib.Core.Logic.{_↔_, by-cases, inl, inr, ⊎-elim}
+use mathlib.Core.Logic.{_↔_, inl, inr, ⊎-elim}
 use mathlib.Core.Bool.{true, false, true≢false}
 use mathlib.Core.List.{List}
 use Prim.Native.Nat.{ℕ, zero, suc, _+_, _-_, _*_, _≤_}
-use native.Mathlib.Decide.{decLe}
 use native.Mathlib.Omega.{arith}
 use borrow.Author.Tests.{leb-true, ltb-true, ltb-false, le-leb, eqb-true}
 use lib.Dec.{ltb, leb}
@@ -31,10 +30,10 @@ use Rattle.header.specs.declared.ColumnLayout.{ColumnLayout}
 use Rattle.header.specs.declared.Layout.{Layout}
 use Rattle.header.specs.LayoutWords.{layoutAt}
 use Rattle.table.specs.declared.Reach.{Reach}
-use Rattle.table.specs.declared.Reach.the-variants.{At, Short, Cut}
-use Rattle.table.specs.Rows.{plainEnd, starEnd, pastTriplet, tripletEnd, fieldEnd, onward, columnAt, reach, placeOf, placeOfColumn}
+use Rattle.table.specs.declared.Reach.the-variants.{At}
+use Rattle.table.specs.Rows.{plainEnd, starEnd, pastTriplet, tripletEnd, fieldEnd, columnAt, reach, placeOf, placeOfColumn}
 use Rattle.table.specs.Words.{FieldEnds, Fields, Begun}
-use Rattle.table.proofs.WalkLaws.{reach-within}
+use Rattle.table.proofs.WalkLaws.{passed, reach-within}
 
 pub triplet-kind : (t : FieldType) → (isTriplet t ≡ true) ↔ (t ≡ type.Triplet)
 triplet-kind t = (
@@ -56,14 +55,16 @@ plain-exactly at end need p h = (
   λ w. let t : leb need (end - at) ≡ true = le-leb need (end - at) (omega (arith, w .0, w .1)) in rw t (ap At (sym (w .0))),
 )
 
-star-exactly : (o : Order) (s : List ℕ) (at end w p : ℕ) → at ≤ end → (starEnd o s at end w ≡ At p) ↔ ((p ≡ at + 4 + number o s at 4 * w) × (p ≤ end))
+star-exactly : (o : Order) (s : List ℕ) (at end w p : ℕ) → at ≤ end
+    → (starEnd o s at end w ≡ At p) ↔ ((p ≡ at + 4 + number o s at 4 * w) × (p ≤ end))
 unfolding starEnd
 star-exactly o s at end w p h =
     bool-cases (ltb (end - at) 4)
     (λ t. rw t (λ e. clash (cc), λ q. absurd (omega (arith, ltb-true (end - at) 4 t, q .0, q .1))))
     (λ t. rw t (plain-exactly (at + 4) end (number o s at 4 * w) p (omega (arith, ltb-false (end - at) 4 t))))
 
-past-exactly : (o : Order) (b : List ℕ) (at p : ℕ) (x : Triplet) → tripletOf o b ≡ x → pastTriplet at x ≡ At p → (t : Ids) × (n : ℕ) × BeginsWith o b t n × (p ≡ at + n)
+past-exactly : (o : Order) (b : List ℕ) (at p : ℕ) (x : Triplet) → tripletOf o b ≡ x → pastTriplet at x ≡ At p
+    → (t : Ids) × (n : ℕ) × BeginsWith o b t n × (p ≡ at + n)
 past-exactly o b at p (triplet.Is t n) q e = let r : at + n ≡ p = cc in (t, n, read-exactly o b t n .0 q, sym r)
 past-exactly o b at p (triplet.Refused k) q e = clash (cc)
 
@@ -80,7 +81,8 @@ same-end : {P : Type 0} (x y : Reach) (p : ℕ) → x ≡ y → (y ≡ At p) ↔
 same-end x y p e w = (λ q. w .0 (sym e ∙ q), λ h. e ∙ w .1 h)
 
 -- A FIELD ENDS AT p EXACTLY WHEN it does in words
-pub field-exactly : (o : Order) (s : List ℕ) (end : ℕ) (c : ColumnLayout) (at p : ℕ) → at ≤ end → (fieldEnd o s end c at ≡ At p) ↔ FieldEnds o s end c at p
+pub field-exactly : (o : Order) (s : List ℕ) (end : ℕ) (c : ColumnLayout) (at p : ℕ) → at ≤ end
+    → (fieldEnd o s end c at ≡ At p) ↔ FieldEnds o s end c at p
 unfolding fieldEnd
 field-exactly o s end c at p h =
     bool-cases (isTriplet (c .kind))
@@ -108,20 +110,8 @@ field-exactly o s end c at p h =
     )))
 
 module _ (s : List ℕ) (l : Layout) (start end : ℕ) (first : start ≤ end) (last : end ≤ length s) where
-  -- a walk that came through has come past each column
-  pub came : (x : Reach) (f : ℕ → Reach) (p : ℕ) → onward x f ≡ At p → x ≡ At (placeOf x)
-  came (At q) f p e = refl
-  came Short f p e = clash (cc)
-  came (Cut q) f p e = clash (cc)
-
-  pub passed : (n p : ℕ) → reach s l start end n ≡ At p → (j : ℕ) → j ≤ n → reach s l start end j ≡ At (placeOf (reach s l start end j))
-  passed zero p e j i = let q : j ≡ 0 = omega arith in rw q refl
-  passed (suc n) p e j i =
-      by-cases (decLe j n)
-      (λ c. passed n (placeOf (reach s l start end n)) (came (reach s l start end n) _ p e) j c)
-      (λ c. let q : j ≡ suc n = omega arith in rw q (e ∙ ap (λ (x : Reach). At (placeOf x)) (sym e)))
-
-  pub next-field : (n p q : ℕ) → reach s l start end n ≡ At p → (reach s l start end (suc n) ≡ At q) ↔ FieldEnds (l .order) s end (columnAt l (suc n)) p q
+  pub next-field : (n p q : ℕ) → reach s l start end n ≡ At p
+      → (reach s l start end (suc n) ≡ At q) ↔ FieldEnds (l .order) s end (columnAt l (suc n)) p q
   next-field n p q e =
       rw e (field-exactly (l .order) s end (columnAt l (suc n)) p q (reach-within s l start end n p first last e))
 
@@ -130,8 +120,9 @@ module _ (s : List ℕ) (l : Layout) (start end : ℕ) (first : start ≤ end) (
       → FieldEnds (l .order) s end (layoutAt l k) (placeOfColumn s l start end k) (placeOfColumn s l start end (suc k))
   field-at n p e zero i = absurd (omega (arith, i .0))
   field-at n p e (suc k) i =
-      next-field k (placeOf (reach s l start end k)) (placeOf (reach s l start end (suc k))) (passed n p e k (omega (arith, i .1))) .0
-      (passed n p e (suc k) (i .1))
+      next-field k (placeOf (reach s l start end k)) (placeOf (reach s l start end (suc k)))
+      (passed s l start end n p e k (omega (arith, i .1))) .0
+      (passed s l start end n p e (suc k) (i .1))
 
   -- THE WALK COMES TO THE ROW'S END EXACTLY WHEN the fields use exactly its bytes
   pub walk-fields : reach s l start end (l .columns) ≡ At end → Fields s l start end (placeOfColumn s l start end)
@@ -139,7 +130,8 @@ module _ (s : List ℕ) (l : Layout) (start end : ℕ) (first : start ≤ end) (
 
   pub begun-walk : (place : ℕ → ℕ) (m : ℕ) → Begun s l start end place m → (k : ℕ) → k ≤ m → reach s l start end k ≡ At (place (suc k))
   begun-walk place m f zero i = ap At (sym (f .first))
-  begun-walk place m f (suc k) i = next-field k (place (suc k)) (place (suc (suc k))) (begun-walk place m f k (omega arith)) .1 (f .next (suc k) (omega arith, i))
+  begun-walk place m f (suc k) i = next-field k (place (suc k)) (place (suc (suc k)))
+      (begun-walk place m f k (omega arith)) .1 (f .next (suc k) (omega arith, i))
 
   pub fields-walk : (place : ℕ → ℕ) → Fields s l start end place → (k : ℕ) → k ≤ l .columns → reach s l start end k ≡ At (place (suc k))
   fields-walk place f = begun-walk place (l .columns) (record { first = f .first; next = f .next })

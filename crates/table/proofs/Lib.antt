@@ -2,8 +2,6 @@ pub mod FieldLaws
 pub mod WalkLaws
 pub mod RowLaws
 pub mod RowsPartition
-pub mod SlotLaws
-pub mod FoundLaws
 pub mod FieldExactly
 pub mod RowExactly
 pub mod ColumnBytes

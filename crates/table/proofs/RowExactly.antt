@@ -30,7 +30,8 @@ use Rattle.opening.specs.declared.Table.{Table}
 use Rattle.table.specs.declared.Reach.{Reach}
 use Rattle.table.specs.declared.Reach.the-variants.{At, Short, Cut}
 use Rattle.table.specs.declared.Row.the-variants.{Between}
-use Rattle.opening.specs.Opening.{mostRows, needsIndex}
+use Rattle.limits.specs.Limits.{mostRows}
+use Rattle.opening.specs.Opening.{needsIndex}
 use Rattle.table.specs.Rows.{columnsOf, noSuch, noSuchRow, columnAt, boundOf, outside, reach, placeOf, placeOfColumn}
 use Rattle.table.specs.Rows.{idAt, idRefusal, usedUp, offsetPlace, columnPlace, fieldsRefusal, rowRefusal, rowOf}
 use Rattle.opening.specs.Words.{layoutOf, Opens}
@@ -73,7 +74,7 @@ module _ (file index : List ℕ) (most : ℕ) (h : Reading) (n : ℕ) (o : Opens
   means = laid-out file h (o .header)
 
   pub columns-all : columnsOf l ≡ l .columns
-  columns-all = omega (arith, means .at-most-64)
+  columns-all = omega (arith, means .columns-limit)
 
   -- where no column varies, none has `*` or type K
   fixed-column : OneWidth file → (k : ℕ) → In (l .columns) k → (layoutAt l k .kind ≡ type.Triplet → ⊥) × (layoutAt l k .star ≡ false)
@@ -161,9 +162,13 @@ module _ (file index : List ℕ) (most : ℕ) (h : Reading) (n : ℕ) (o : Opens
                   id = d .0 (q .1);
                 },
             λ x.
-                let p = place-found s l start end forward inside (x .place) (x .fields) (l .id) (means .id-within .0, omega (arith, means .id-within .1)) in
+                let p = place-found s l start end forward inside (x .place) (x .fields) (l .id)
+                (means .id-within .0, omega (arith, means .id-within .1)) in
                 ap (λ (x : Refusal). x .number) row-by-walk
-                ∙ w .1 (fields-end s l start end forward inside (x .place) (x .fields), d .1 (ap (λ (k : ℕ). number (l .order) s k 4) p ∙ x .id)),
+                ∙ w .1 (
+                  fields-end s l start end forward inside (x .place) (x .fields),
+                  d .1 (ap (λ (k : ℕ). number (l .order) s k 4) p ∙ x .id),
+                ),
           )
 
     -- THE ROW is handed out where it lies exactly when it is right

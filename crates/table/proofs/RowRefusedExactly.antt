@@ -86,7 +86,8 @@ module _ (o : Order) (s : List ℕ) (end : ℕ) (c : ColumnLayout) (at : ℕ) wh
     λ w. go (fieldEnd o s end c at) refl w,
   )
     where
-      go : (x : Reach) → fieldEnd o s end c at ≡ x → (c .kind ≡ type.Triplet → ⊥) × ((p : ℕ) → FieldEnds o s end c at p → ⊥) → fieldEnd o s end c at ≡ Short
+      go : (x : Reach) → fieldEnd o s end c at ≡ x
+          → (c .kind ≡ type.Triplet → ⊥) × ((p : ℕ) → FieldEnds o s end c at p → ⊥) → fieldEnd o s end c at ≡ Short
       go (At p) e w = absurd (w .1 p (field-exactly o s end c at p h .0 e))
       go Short e w = e
       go (Cut q) e w = absurd (w .0 (cut-exactly q .0 e .0))
@@ -170,7 +171,8 @@ module _ (file index : List ℕ) (most : ℕ) (h : Reading) (rows : ℕ) (o : Op
         (λ t. absurd (z (refusal-parts 0 0 n p (rw t at e) .0)))
         (λ t. let w = refusal-parts 9 i n p (rw t at e) in (w .0, w .1, eqb-false (idAt file l (place (l .id))) i t))
 
-    said : (x : Reach) → reach file l start end (l .columns) ≡ x → usedUp x end i idJudged ≡ refusal n p → (n ≡ 0 → ⊥) → RowRefused file l start end i n p
+    said : (x : Reach) → reach file l start end (l .columns) ≡ x → usedUp x end i idJudged ≡ refusal n p → (n ≡ 0 → ⊥)
+        → RowRefused file l start end i n p
     said (At q) u e z =
         bool-cases (eqb q end)
         (λ t.
@@ -189,7 +191,8 @@ module _ (file index : List ℕ) (most : ℕ) (h : Reading) (rows : ℕ) (o : Op
     said Short u e z =
         let w = refusal-parts 10 i n p e in
         let k = stops-at file l start end (l .columns) Short (λ p v. clash (cc)) u in
-        let f = short-exactly (l .order) file end (columnAt l (k .column)) (place (k .column)) (came-within (pred (k .column)) (place (k .column)) (k .before)) .0 (k .stops) in
+        let f = short-exactly (l .order) file end (columnAt l (k .column)) (place (k .column))
+        (came-within (pred (k .column)) (place (k .column)) (k .before)) .0 (k .stops) in
         inl (record {
           number-10 = w .0;
           at-row = w .1;
@@ -225,7 +228,8 @@ module _ (file index : List ℕ) (most : ℕ) (h : Reading) (rows : ℕ) (o : Op
     missing : FieldMissing file l start end i n p → (rowRefusal file l start end i ≡ refusal n p) × (n ≡ 0 → ⊥)
     missing w =
         let e = came-to (w .place) (w .column) (w .within .0) (w .begun) in
-        let f = short-exactly (l .order) file end (columnAt l (w .column)) (w .place (w .column)) (came-within (pred (w .column)) (w .place (w .column)) e) .1 (w .kind, w .no-end) in (
+        let f = short-exactly (l .order) file end (columnAt l (w .column)) (w .place (w .column))
+        (came-within (pred (w .column)) (w .place (w .column)) e) .1 (w .kind, w .no-end) in (
           judged Short (stops-through file l start end Short (λ f. refl) (w .column) (l .columns) (w .place (w .column)) (w .within) e f)
               ∙ parts-refusal 10 i n p (w .number-10) (w .at-row),
           λ z. omega (arith, w .number-10),
@@ -253,7 +257,8 @@ module _ (file index : List ℕ) (most : ℕ) (h : Reading) (rows : ℕ) (o : Op
         let m = means file index most h rows o .id-within in
         let q = place-found file l start end ahead inside (w .place) (w .fields) (l .id) (m .0, omega (arith, m .1)) in (
           judged (At end) (fields-end file l start end ahead inside (w .place) (w .fields))
-              ∙ rw (eq-eqb end end refl, q, ne-eqb (number (l .order) file (w .place (l .id)) 4) i (w .wrong)) (parts-refusal 9 i n p (w .number-9) (w .at-row)),
+              ∙ rw (eq-eqb end end refl, q, ne-eqb (number (l .order) file (w .place (l .id)) 4) i (w .wrong))
+              (parts-refusal 9 i n p (w .number-9) (w .at-row)),
           λ z. omega (arith, w .number-9),
         )
 
@@ -281,6 +286,7 @@ module _ (file index : List ℕ) (most : ℕ) (h : Reading) (rows : ℕ) (o : Op
         ))
         (λ t.
         rw t (
-          λ e. let x : q ≡ refusal n p = cc in row-refused-exactly .0 (x, λ z. eqb-false (q .number) 0 t (ap (λ (r : Refusal). r .number) x ∙ z)),
+          λ e. let x : q ≡ refusal n p = cc in row-refused-exactly .0
+              (x, λ z. eqb-false (q .number) 0 t (ap (λ (r : Refusal). r .number) x ∙ z)),
           λ w. ap Refused (row-refused-exactly .1 w .0),
         )))

@@ -56,7 +56,8 @@ module _ (file index : List ℕ) (most : ℕ) (h : Reading) (n : ℕ) (o : Opens
       (λ b. indexed-partition (no-width-exactly file h (o .header) .1 (b .0))) (o .body)
 
   -- a row lies inside the body
-  pub row-inside : (i : ℕ) → In n i → (l .start ≤ boundOf l index (pred i)) × (boundOf l index (pred i) ≤ boundOf l index i) × (boundOf l index i ≤ length file)
+  pub row-inside : (i : ℕ) → In n i → (l .start ≤ boundOf l index (pred i))
+      × (boundOf l index (pred i) ≤ boundOf l index i) × (boundOf l index i ≤ length file)
   row-inside i r =
       let p = rows-partition in (
         omega (arith, p .begins, p .rises 0 (pred i) (omega arith) (omega (arith, r .1))),
@@ -70,14 +71,16 @@ module _ (file index : List ℕ) (most : ℕ) (h : Reading) (n : ℕ) (o : Opens
   row-width w (suc i) r = rw (bound-fixed l index (suc i) w, bound-fixed l index i w) (omega arith)
 
   -- ROW i LIES IN WORDS EXACTLY from the bound before it to its own
-  pub row-lies : (i : ℕ) → In n i → (start end : ℕ) → Lies file index i start end ↔ ((start ≡ boundOf l index (pred i)) × (end ≡ boundOf l index i))
+  pub row-lies : (i : ℕ) → In n i → (start end : ℕ)
+      → Lies file index i start end ↔ ((start ≡ boundOf l index (pred i)) × (end ≡ boundOf l index i))
   row-lies i r start end = (
     ⊎-elim
         (λ w.
         let q = says-one-width file (w .0) in
         let b = bound-fixed l index (pred i) q in
         (omega (arith, w .1 .starts, b), omega (arith, w .1 .starts, w .1 .ends, b, row-width q i r)))
-        (λ w. let b = by-entry (says-no-width file (w .0)) in (omega (arith, w .1 .starts, b .0), omega (arith, w .1 .starts, w .1 .ends, b .1))),
+        (λ w. let b = by-entry (says-no-width file (w .0)) in
+        (omega (arith, w .1 .starts, b .0), omega (arith, w .1 .starts, w .1 .ends, b .1))),
     λ e.
         ⊎-elim
         (λ w.

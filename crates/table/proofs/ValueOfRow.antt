@@ -44,8 +44,8 @@ use Rattle.table.specs.Rows.{columnAt, boundOf, starEnd, tripletEnd, fie
 use Rattle.table.specs.Values.{shortOf, integerOf, floatOf, doubleOf, elementsStart, elementsBytes, tripletOfRead, byType, shown, valueOf}
 use Rattle.opening.specs.Words.{layoutOf, Opens}
 use Rattle.table.specs.Words.{FieldEnds, Fields, RowRight, SameRow, PartInside}
-use Rattle.table.proofs.WalkLaws.{reach-within}
-use Rattle.table.proofs.FieldExactly.{came, passed, next-field, field-at, fields-end, place-found}
+use Rattle.table.proofs.WalkLaws.{came, passed, reach-within}
+use Rattle.table.proofs.FieldExactly.{next-field, field-at, fields-end, place-found}
 use Rattle.table.proofs.ColumnBytes.{OneElement, column-one-element, id-kind, ends-after, element-room, star-room, fixed-room}
 use Rattle.table.proofs.RowExactly.{there, means, columns-all, forward, inside-file, place-by-walk, row-by-walk, row-there, row-of-exactly}
 
@@ -54,13 +54,14 @@ pub reach-after : (s : List ℕ) (l : Layout) (start end : ℕ) → start ≤ en
 reach-after s l start end a b zero p e = let q : start ≡ p = cc in omega arith
 reach-after s l start end a b (suc k) p e =
     let x = reach s l start end k in
-    let q = came s l start end a b x _ p e in
+    let q = came x _ p e in
     let f = next-field s l start end a b k (placeOf x) p q .0 e in
     omega (arith, reach-after s l start end a b k (placeOf x) q, ends-after (l .order) s end (columnAt l (suc k)) (placeOf x) p f)
 
 -- ---- two files with the same bytes from start to end
 module _ (s t : List ℕ) (start end : ℕ) (e : SameRow s t start end) (a : start ≤ end) where
-  own-part : (r : List ℕ) (at w : ℕ) → start ≤ at → at + w ≤ end → take w (drop (at - start) (take (end - start) (drop start r))) ≡ take w (drop at r)
+  own-part : (r : List ℕ) (at w : ℕ) → start ≤ at → at + w ≤ end
+      → take w (drop (at - start) (take (end - start) (drop start r))) ≡ take w (drop at r)
   own-part r at w i j =
       let q : start + (at - start) ≡ at = omega arith in
       ap (take w) (drop-take (at - start) (end - start) (drop start r))
@@ -72,7 +73,8 @@ module _ (s t : List ℕ) (start end : ℕ) (e : SameRow s t start end) (a : sta
 
   pub number-same : (o : Order) (at w : ℕ) → start ≤ at → at + w ≤ end → number o s at w ≡ number o t at w
   number-same o at w i j =
-      number-inside o s at w (omega (arith, e .in-first)) ∙ ap (value o) (part-same at w i j) ∙ sym (number-inside o t at w (omega (arith, e .in-second)))
+      number-inside o s at w (omega (arith, e .in-first)) ∙ ap (value o) (part-same at w i j)
+      ∙ sym (number-inside o t at w (omega (arith, e .in-second)))
 
   field-same : (o : Order) (c : ColumnLayout) (at : ℕ) → start ≤ at → at ≤ end → fieldEnd o s end c at ≡ fieldEnd o t end c at
   unfolding fieldEnd starEnd tripletEnd
@@ -86,7 +88,8 @@ module _ (s t : List ℕ) (start end : ℕ) (e : SameRow s t start end) (a : sta
     onward-same : (k : ℕ) (x : Reach) → reach s l start end k ≡ x
         → onward x (λ p. fieldEnd (l .order) s end (columnAt l (suc k)) p) ≡ onward x (λ p. fieldEnd (l .order) t end (columnAt l (suc k)) p)
     onward-same k (At p) q =
-        field-same (l .order) (columnAt l (suc k)) p (reach-after s l start end a (e .in-first) k p q) (reach-within s l start end k p a (e .in-first) q)
+        field-same (l .order) (columnAt l (suc k)) p (reach-after s l start end a (e .in-first) k p q)
+        (reach-within s l start end k p a (e .in-first) q)
     onward-same k Short q = refl
     onward-same k (Cut p) q = refl
 
@@ -105,10 +108,12 @@ module _ (s t : List ℕ) (start end : ℕ) (e : SameRow s t start end) (a : sta
     elements-same : (c .kind ≡ type.Triplet → ⊥) → elementsBytes o s c at ≡ elementsBytes o t c at
     elements-same kind =
         bool-cases (c .star)
-        (λ b. ap (λ (n : ℕ). cond (c .star) (n * widthOf (c .kind)) (c .size)) (number-same o at 4 i (omega (arith, star-room o s end c at p f b kind))))
+        (λ b. ap (λ (n : ℕ). cond (c .star) (n * widthOf (c .kind)) (c .size))
+        (number-same o at 4 i (omega (arith, star-room o s end c at p f b kind))))
         (λ b. rw b)
 
-    one-number : (k : FieldType) → c .kind ≡ k → starOf k ≡ false → (k ≡ type.Triplet → ⊥) → number o s at (widthOf k) ≡ number o t at (widthOf k)
+    one-number : (k : FieldType) → c .kind ≡ k → starOf k ≡ false → (k ≡ type.Triplet → ⊥)
+        → number o s at (widthOf k) ≡ number o t at (widthOf k)
     one-number k q none kind = number-same o at (widthOf k) i (element-room o s end c at p f one k q none kind)
 
     type-same : (k : FieldType) → c .kind ≡ k → byType k o s c at end ≡ byType k o t c at end
@@ -198,12 +203,14 @@ module _ (file index : List ℕ) (most : ℕ) (h : Reading) (n : ℕ) (o : Opens
         let f = field-at file l start end ahead (e .in-first) all p q (l .id) id-in in
         let room = element-room (l .order) file end (layoutAt l (l .id)) at (placeOfColumn file l start end (suc (l .id))) f
         (column-one-element file h (o .header) (l .id) id-in) type.Integer (id-kind file h (o .header)) refl (λ z. clash (cc)) in
-        let after = reach-after file l start end ahead (e .in-first) (pred (l .id)) at (passed file l start end ahead (e .in-first) all p q (pred (l .id)) (omega (arith, id-in .1))) in
+        let after = reach-after file l start end ahead (e .in-first) (pred (l .id)) at
+        (passed file l start end all p q (pred (l .id)) (omega (arith, id-in .1))) in
         number-same file t start end e ahead (l .order) at 4 after room
         ∙ ap (λ (k : ℕ). number (l .order) t k 4) (place-same file t start end e ahead l (l .id))
 
     judged-same : (x : Reach) → reach file l start end all ≡ x
-        → usedUp x end i (idRefusal file l (placeOfColumn file l start end (l .id)) i) ≡ usedUp x end i (idRefusal t l (placeOfColumn t l start end (l .id)) i)
+        → usedUp x end i (idRefusal file l (placeOfColumn file l start end (l .id)) i) ≡ usedUp x end i
+        (idRefusal t l (placeOfColumn t l start end (l .id)) i)
     judged-same (At p) q = ap (λ (v : ℕ). usedUp (At p) end i (refusedIf (not (eqb v i)) 9 i)) (id-same p q)
     judged-same Short q = refl
     judged-same (Cut p) q = refl
@@ -231,7 +238,7 @@ module _ (file index : List ℕ) (most : ℕ) (h : Reading) (n : ℕ) (o : Opens
     came-through = fields-end file l start end onwards within (right .place) (right .fields)
 
     came-to : reach file l start end (pred k) ≡ At at
-    came-to = passed file l start end onwards within (l .columns) end came-through (pred k) (omega (arith, c .1))
+    came-to = passed file l start end (l .columns) end came-through (pred k) (omega (arith, c .1))
 
     after-start : start ≤ at
     after-start = reach-after file l start end onwards within (pred k) at came-to
@@ -246,14 +253,20 @@ module _ (file index : List ℕ) (most : ℕ) (h : Reading) (n : ℕ) (o : Opens
     pub value-shown : valueOf file index opened i k ≡ shown (l .order) file (layoutAt l k) at end
     unfolding valueOf
     value-shown =
-        rw (row-there file index most h n o i r, columns-all file index most h n o, there (l .columns) k c, row-of-exactly file index most h n o i r .1 right)
+        rw (
+          row-there file index most h n o i r,
+          columns-all file index most h n o,
+          there (l .columns) k c,
+          row-of-exactly file index most h n o i r .1 right,
+        )
         (ap (λ (p : ℕ). shown (l .order) file (layoutAt l k) p end) (place-by-walk file index most h n o i r file within k c))
 
     -- and so it is over any file with the same bytes there
     value-shown-of : (t : List ℕ) → SameRow file t start end → valueOf file index opened i k ≡ shown (l .order) t (layoutAt l k) at end
     value-shown-of t e =
         value-shown
-        ∙ shown-same file t start end e onwards (l .order) (layoutAt l k) at (placeOfColumn file l start end (suc k)) after-start before-end field-there
+        ∙ shown-same file t start end e onwards (l .order) (layoutAt l k) at
+        (placeOfColumn file l start end (suc k)) after-start before-end field-there
         (column-one-element file h (o .header) k c)
 
     -- THE VALUE IS A FUNCTION OF THE ROW'S OWN BYTES, by the place that the definition has
@@ -268,16 +281,19 @@ module _ (file index : List ℕ) (most : ℕ) (h : Reading) (n : ℕ) (o : Opens
     pub value-inside : PartInside start end (valueOf file index opened i k)
     value-inside =
         subst (PartInside start end) (sym value-shown)
-        (shown-inside start end (l .order) file (layoutAt l k) at (placeOfColumn file l start end (suc k)) after-start field-there (column-one-element file h (o .header) k c))
+        (shown-inside start end (l .order) file (layoutAt l k) at
+        (placeOfColumn file l start end (suc k)) after-start field-there (column-one-element file h (o .header) k c))
 
   -- ---- THE VALUE IS THE FIELD OF ITS COLUMN, at the place where the fields before it end: whatever places the fields have in words
-  module _ (place : ℕ → ℕ) (f : Fields file l start end place) (id : number (l .order) file (place (l .id)) 4 ≡ i) (k : ℕ) (c : In (l .columns) k) where
+  module _ (place : ℕ → ℕ) (f : Fields file l start end place) (id : number (l .order) file (place (l .id)) 4 ≡ i)
+      (k : ℕ) (c : In (l .columns) k) where
     abbrev row-right : RowRight file l start end i
     row-right = record { place = place; fields = f; id = id }
 
     placed : placeOfColumn file l start end k ≡ place k
     placed =
-        place-found file l start end (forward file index most h n o i r) (inside-file file index most h n o i r) place f k (c .0, omega (arith, c .1))
+        place-found file l start end (forward file index most h n o i r)
+        (inside-file file index most h n o i r) place f k (c .0, omega (arith, c .1))
 
     -- the place that the definition has is that place
     pub column-placed : columnPlace file l start end k ≡ place k

@@ -29,7 +29,7 @@ use Rattle.field.specs.declared.FieldType.{FieldType}
 use Rattle.field.specs.declared.FieldType.the-variants as type
 use Rattle.field.specs.Nulls.{shortHalf, integerHalf, signed, shortIsNull, integerIsNull, floatIsNull, doubleIsNull}
 use Rattle.triplet.specs.declared.Triplet as read
-use Rattle.triplet.specs.Triplet.{badTriplet, tripletOf}
+use Rattle.triplet.specs.Triplet.{tripletOf}
 use Rattle.triplet.proofs.ReadExactly.{read-exactly, refused-exactly}
 use Rattle.header.specs.declared.ColumnLayout.{ColumnLayout}
 use Rattle.header.specs.declared.Layout.{Layout}
@@ -99,7 +99,8 @@ module _ (s : List ℕ) (l : Layout) (start end i : ℕ) where
   row-not-13 : Not13 (rowRefusal s l start end i)
   unfolding rowRefusal first
   row-not-13 =
-      either-not-13 (eqb (placeRefusal s l start end i .number) 0) (fieldsRefusal s l start end i) (placeRefusal s l start end i) fields-not-13 place-not-13
+      either-not-13 (eqb (placeRefusal s l start end i .number) 0) (fieldsRefusal s l start end i)
+      (placeRefusal s l start end i) fields-not-13 place-not-13
 
 -- the refusal of a row that is there is its judgement
 unless-refused : (q r : Refusal) (start end : ℕ) → unlessRefused q start end ≡ row.Refused r → q ≡ r
@@ -134,11 +135,13 @@ module _ (file index : List ℕ) (t : Table) (i : ℕ) where
   refused-numbered q e =
       let x = rowRefusal file (t .layout) (boundOf (t .layout) index (pred i)) (boundOf (t .layout) index i) i in
       bool-cases (noSuchRow t i)
-      (λ a. let u : row.Refused (refusal 13 i) ≡ row.Refused q = rw a at e in let v : refusal 13 i ≡ q = cc in λ z. omega (arith, ap (λ (r : Refusal). r .number) v))
+      (λ a. let u : row.Refused (refusal 13 i) ≡ row.Refused q = rw a at e in let v : refusal 13 i ≡ q = cc in λ z.
+      omega (arith, ap (λ (r : Refusal). r .number) v))
       (λ a.
       bool-cases (eqb (x .number) 0)
       (λ b. let u = rw (a, b) at e in clash (cc))
-      (λ b. let u : row.Refused x ≡ row.Refused q = rw (a, b) at e in let v : x ≡ q = cc in λ z. eqb-false (x .number) 0 b (ap (λ (r : Refusal). r .number) v ∙ z)))
+      (λ b. let u : row.Refused x ≡ row.Refused q = rw (a, b) at e in let v : x ≡ q = cc in λ z.
+      eqb-false (x .number) 0 b (ap (λ (r : Refusal). r .number) v ∙ z)))
 
   pub accepted-there : (start end : ℕ) → rowOf file index t i ≡ row.Between start end → RowThere t i
   unfolding rowOf
@@ -174,7 +177,8 @@ module _ (o : Order) (s : List ℕ) (c : ColumnLayout) (p end : ℕ) (q : Refusa
   type-refused type.Float e =
       let b = number o s p 4 in absurd (neither-refused (floatIsNull b) (val.FloatNull b) (val.Float b) q (λ z. clash (cc)) (λ z. clash (cc)) e)
   type-refused type.Double e =
-      let b = number o s p 8 in absurd (neither-refused (doubleIsNull b) (val.DoubleNull b) (val.Double b) q (λ z. clash (cc)) (λ z. clash (cc)) e)
+      let b = number o s p 8 in absurd (neither-refused (doubleIsNull b) (val.DoubleNull b) (val.Double b) q
+      (λ z. clash (cc)) (λ z. clash (cc)) e)
   type-refused type.Short e =
       let b = number o s p 2 in
       absurd (neither-refused (shortIsNull b) val.ShortNull (val.Short (signed shortHalf b)) q (λ z. clash (cc)) (λ z. clash (cc)) e)
@@ -237,7 +241,16 @@ module _ (file index : List ℕ) (t : Table) (i k : ℕ) where
         let at = columnPlace file l start end k in
         let w = shown-refused (l .order) file column at end q .0 e in
         let z = refused-exactly (l .order) (take (end - at) (drop at file)) q .0 (w .1) in
-        inr (record { column = b; start = start; end = end; accepted = u; kind = w .0; number-11 = ap (λ (r : Refusal). r .number) (z .0); bad = z .1 })
+        inr (record {
+          column = b;
+          start = start;
+          end = end;
+          accepted = u;
+          kind = w .0;
+          number-11 = ap
+              (λ (r : Refusal). r .number) (z .0);
+          bad = z .1;
+        })
 
     -- A VALUE IS REFUSED WITH n AT p EXACTLY WHEN it is in words
     pub value-refused-exactly : (valueOf file index t i k ≡ val.Refused q) ↔ ValueRefused file index t i k n p
@@ -274,7 +287,8 @@ module _ (file index : List ℕ) (t : Table) (i k : ℕ) where
 
   -- A VALUE IS REFUSED WITH 13 EXACTLY WHEN there is no such row (its number), or else no such column (its number)
   pub value-13-exactly : (p : ℕ)
-      → (valueOf file index t i k ≡ val.Refused (refusal 13 p)) ↔ (((RowThere t i → ⊥) × (p ≡ i)) ⊎ (RowThere t i × (ColumnThere t k → ⊥) × (p ≡ k)))
+      → (valueOf file index t i k ≡ val.Refused (refusal 13 p)) ↔
+      (((RowThere t i → ⊥) × (p ≡ i)) ⊎ (RowThere t i × (ColumnThere t k → ⊥) × (p ≡ k)))
   value-13-exactly p =
       let w = value-refused-exactly 13 p in (
         λ e.
@@ -319,7 +333,8 @@ module _ (file index : List ℕ) (most : ℕ) (h : Reading) (n : ℕ) (o : Opens
 
   -- SO OF AN OPENED TABLE a value is refused where there is no such row, no such column, or the row is refused, and nowhere else
   pub opened-value-refused-exactly : (m p : ℕ)
-      → (valueOf file index opened i k ≡ val.Refused (refusal m p)) ↔ (NoRow opened i m p ⊎ (NoColumn opened i k m p ⊎ RowBad file index opened i k m p))
+      → (valueOf file index opened i k ≡ val.Refused (refusal m p)) ↔
+      (NoRow opened i m p ⊎ (NoColumn opened i k m p ⊎ RowBad file index opened i k m p))
   opened-value-refused-exactly m p =
       let w = value-refused-exactly file index opened i k m p in (
         λ e. ⊎-elim inl (⊎-elim (λ x. inr (inl x)) (⊎-elim (λ x. inr (inr x)) (λ x. absurd (never x e)))) (w .0 e),

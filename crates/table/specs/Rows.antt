@@ -3,7 +3,7 @@ use mathlib.Core.Bool.{Bool, true, cond, not}
 use mathlib.Core.List.{List}
 use Prim.Native.Nat.{ℕ, zero, suc, pred, min, _+_, _-_, _*_}
 use lib.Dec.{eqb, ltb, leb}
-use lib.ListN.{length, getD, set, take, drop, replicate}
+use lib.ListN.{length, getD, take, drop}
 use Rattle.refusal.specs.declared.Refusal.{Refusal}
 use Rattle.refusal.specs.Order.{refusal, refusedIf, first, lowestOf}
 use Rattle.number.specs.declared.Order.{Order}
@@ -14,16 +14,14 @@ use Rattle.triplet.specs.declared.Triplet.the-variants as triplet
 use Rattle.triplet.specs.Triplet.{tripletOf}
 use Rattle.header.specs.declared.Layout.{Layout}
 use Rattle.header.specs.declared.ColumnLayout.{ColumnLayout}
-use Rattle.header.specs.Judge.{mostColumns}
+use Rattle.limits.specs.Limits.{mostColumns, mostRows}
 use Rattle.header.specs.Layouts.{blankColumn}
 use Rattle.opening.specs.declared.Table.{Table}
 use Rattle.table.specs.declared.Reach.{Reach}
 use Rattle.table.specs.declared.Reach.the-variants.{At, Short, Cut}
-use Rattle.table.specs.declared.Places.{Places}
-use Rattle.table.specs.declared.Found.{Found}
 use Rattle.table.specs.declared.Row.{Row}
 use Rattle.table.specs.declared.Row.the-variants.{Between, Refused}
-use Rattle.opening.specs.Opening.{mostRows, needsIndex, endAt}
+use Rattle.opening.specs.Opening.{needsIndex, endAt}
 
 -- rows and columns that a table has, whoever made it
 abbrev pub rowsOf : Table → ℕ
@@ -96,37 +94,6 @@ placeOf (Cut q) = 0
 abbrev pub placeOfColumn : List ℕ → Layout → ℕ → ℕ → ℕ → ℕ
 placeOfColumn s l start end k = placeOf (reach s l start end (pred k))
 
--- ---- one walk that keeps the places asked for: slot `slots k` keeps where column k starts; slot 0 is nobody's
-abbrev pub noPlaces : List ℕ
-noPlaces = replicate 8 0
-
-abbrev pub slotOf : List ℕ → ℕ → ℕ
-slotOf slots k = getD slots (pred k) 0
-
-abbrev pub keep : List ℕ → List ℕ → ℕ → Reach → List ℕ
-keep at slots k (At p) = set at (slotOf slots k) p
-keep at slots k Short = at
-keep at slots k (Cut q) = at
-
--- `r n` says how far a walk came past the columns 1..n
-abbrev pub keptBy : (ℕ → Reach) → List ℕ → ℕ → List ℕ
-keptBy r slots zero = noPlaces
-keptBy r slots (suc n) = keep (keptBy r slots n) slots (suc n) (r n)
-
-abbrev pub placesKept : List ℕ → Layout → ℕ → ℕ → List ℕ → ℕ → List ℕ
-placesKept s l start end slots n = keptBy (reach s l start end) slots n
-
--- past the columns 1..n, with the places kept
-unfoldable pub walked : List ℕ → Layout → ℕ → ℕ → List ℕ → ℕ → Places
-walked s l start end slots n = record { reach = reach s l start end n; at = placesKept s l start end slots n }
-
--- the slots of a walk that looks for the id column and for column k, and the place that it kept for a column
-abbrev pub slotsFor : ℕ → ℕ → List ℕ
-slotsFor id k = set (set (replicate mostColumns 0) (id - 1) 1) (k - 1) 2
-
-abbrev pub keptFor : List ℕ → List ℕ → ℕ → ℕ
-keptFor at slots k = getD at (slotOf slots k) 0
-
 -- ---- the judgement
 
 -- the id of a row whose id column starts at the place p
@@ -161,13 +128,12 @@ fieldsRefusal s l start end i =
     (usedUp (reach s l start end (columnsOf l)) end i (idRefusal s l (columnPlace s l start end (l .id)) i))
     (idRefusal s l (columnPlace s l start end (l .id)) i)
 
--- the judgement of the fields, and where column k starts
-unfoldable pub foundOf : List ℕ → Layout → ℕ → ℕ → ℕ → ℕ → Found
-foundOf s l start end i k = record { refusal = fieldsRefusal s l start end i; place = columnPlace s l start end k }
-
 -- a row that no fields can be looked for in: it lies outside the file, or its layout, which no header gave, has no id column
+abbrev pub placeJudged : List ℕ → Bool → ℕ → ℕ → ℕ → Refusal
+placeJudged s missing start end i = cond (outside s start end) (refusal 10 i) (refusedIf missing 9 i)
+
 abbrev pub placeRefusal : List ℕ → Layout → ℕ → ℕ → ℕ → Refusal
-placeRefusal s l start end i = cond (outside s start end) (refusal 10 i) (refusedIf (noSuchColumn l (l .id)) 9 i)
+placeRefusal s l start end i = placeJudged s (noSuchColumn l (l .id)) start end i
 
 -- THE JUDGEMENT of row i that lies from start to end
 unfoldable pub rowRefusal : List ℕ → Layout → ℕ → ℕ → ℕ → Refusal

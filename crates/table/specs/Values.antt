@@ -15,7 +15,7 @@ use Rattle.triplet.specs.Triplet.{tripletOf}
 use Rattle.header.specs.declared.ColumnLayout.{ColumnLayout}
 use Rattle.opening.specs.declared.Table.{Table}
 use Rattle.table.specs.declared.Row as row
-use Rattle.table.specs.declared.Span.{Span}
+use Rattle.table.specs.declared.Extent.{Extent}
 use Rattle.table.specs.declared.Value.{Value}
 use Rattle.table.specs.declared.Value.the-variants.{Short, ShortNull, Integer, IntegerNull, Float, FloatNull, Double, DoubleNull}
 use Rattle.table.specs.declared.Value.the-variants.{Triplet, Text, Date, Coordinates, Empty, Refused}
@@ -81,25 +81,25 @@ valueOf file index t i k =
     (λ start end. shown (t .layout .order) file (columnAt (t .layout) k) (columnPlace file (t .layout) start end k) end)))
 
 -- where the part of the file starts that a value shows, and how many bytes it has; none of a value that shows none
-abbrev pub noSpan : Span
-noSpan = record { start = 0; bytes = 0 }
+abbrev pub noExtent : Extent
+noExtent = record { start = 0; bytes = 0 }
 
-abbrev pub spanOf : Value → Span
-spanOf (Text p n) = record { start = p; bytes = n }
-spanOf (Date p n) = record { start = p; bytes = n }
-spanOf (Coordinates p n) = record { start = p; bytes = n }
-spanOf (Short v) = noSpan
-spanOf ShortNull = noSpan
-spanOf (Integer v) = noSpan
-spanOf IntegerNull = noSpan
-spanOf (Float b) = noSpan
-spanOf (FloatNull b) = noSpan
-spanOf (Double b) = noSpan
-spanOf (DoubleNull b) = noSpan
-spanOf (Triplet ids) = noSpan
-spanOf Empty = noSpan
-spanOf (Refused q) = noSpan
+abbrev pub extentOf : Value → Extent
+extentOf (Text p n) = record { start = p; bytes = n }
+extentOf (Date p n) = record { start = p; bytes = n }
+extentOf (Coordinates p n) = record { start = p; bytes = n }
+extentOf (Short v) = noExtent
+extentOf ShortNull = noExtent
+extentOf (Integer v) = noExtent
+extentOf IntegerNull = noExtent
+extentOf (Float b) = noExtent
+extentOf (FloatNull b) = noExtent
+extentOf (Double b) = noExtent
+extentOf (DoubleNull b) = noExtent
+extentOf (Triplet ids) = noExtent
+extentOf Empty = noExtent
+extentOf (Refused q) = noExtent
 
 -- THE PART SHOWN; past the end of the file it is cut
 unfoldable pub partOf : List ℕ → Value → List ℕ
-partOf file v = take (spanOf v .bytes) (drop (spanOf v .start) file)
+partOf file v = take (extentOf v .bytes) (drop (extentOf v .start) file)

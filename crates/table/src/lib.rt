@@ -4,39 +4,30 @@ pub mod rows;
 ghost use mathlib.Core.Path.{_≡_};
 ghost use mathlib.Core.Bool.{false};
 ghost use Prim.Native.Nat.{min, _+_, _-_, _*_, _≤_, _<_};
-ghost use lib.ListN.{length, set, take, drop};
+ghost use lib.ListN.{length, take, drop};
 ghost use Rattle.field.specs.Fields.{widest};
 ghost use Rattle.triplet.specs.Triplet.{tripletOf};
-ghost use Rattle.header.specs.Judge.{mostColumns};
-ghost use Rattle.header.specs.Layouts.{blankColumn};
+ghost use Rattle.limits.specs.Limits.{mostColumns, mostRows};
 ghost use Rattle.field.specs.Nulls.{shortHalf, integerHalf, signed};
-ghost use Rattle.opening.specs.Opening.{mostRows};
-ghost use Rattle.table.specs.Rows.{columnsOf, noSuch, noSuchColumn, outside, columnAt, boundOf, plainEnd, starEnd, tripletEnd, fieldEnd};
-ghost use Rattle.table.specs.Rows.{walked, slotsFor, keptFor, foundOf, idJudged, usedUp, columnPlace, offsetPlace};
-ghost use Rattle.table.specs.Rows.{fieldsRefusal, placeRefusal, rowRefusal, unlessRefused, rowOf};
-ghost use Rattle.table.specs.Plans.{fixedBound, entryEnd, walkedBound};
-ghost use Rattle.table.specs.Values.{shortOf, integerOf, floatOf, doubleOf, elementsStart, elementsBytes, tripletOfRead, shown, inRow, valueOf, spanOf, partOf};
-
+ghost use Rattle.table.specs.Rows.{columnsOf, noSuch, noSuchColumn, outside, columnAt, boundOf, plainEnd, starEnd, tripletEnd};
+ghost use Rattle.table.specs.Rows.{idJudged, usedUp, columnPlace, rowRefusal, unlessRefused, rowOf};
+ghost use Rattle.table.specs.Plans.{fixedBound, walkedBound};
+ghost use Rattle.table.specs.Serving.RowPlans.{placeBy};
+ghost use Rattle.table.specs.Values.{shortOf, integerOf, floatOf, doubleOf, elementsStart, elementsBytes, tripletOfRead, shown, inRow, valueOf, extentOf, partOf};
 use field::FieldType;
 use header::ColumnLayout;
 use header::Layout;
-use header::MOST_COLUMNS;
+use limits::MOST_COLUMNS;
+use limits::MOST_ROWS;
 use number::Order;
 use opening::Table;
-use opening::MOST_ROWS;
+use refusal::BAD_TRIPLET;
+use refusal::NO_SUCH;
 use refusal::Refusal;
+use refusal::WRONG_ID;
+use refusal::WRONG_ROW;
 use triplet::Ids;
 use triplet::Triplet;
-
-// Refusals: a wrong id, a row too short or not used up, a bad triplet, no such row or column.
-const WRONG_ID: u32 = 9;
-const WRONG_ROW: u32 = 10;
-const BAD_TRIPLET: u32 = 11;
-const NO_SUCH: u32 = 13;
-
-// The slots of the id column and of the column asked for, in a walk that looks for both.
-const ID_SLOT: u8 = 1;
-const COLUMN_SLOT: u8 = 2;
 
 // Where a field ends; or the row is too short for it (10); or it is a bad triplet, and where (11).
 pub enum Reach {
@@ -45,20 +36,8 @@ pub enum Reach {
     Cut(usize),
 }
 
-// Where a row's fields were found: how far the walk came, and the place of the column that each slot asks for.
-pub struct Places {
-    pub reach: Reach,
-    pub at: [usize; 8],
-}
-
-// What a row's fields come to: their judgement, and where the column asked for starts.
-struct Found {
-    refusal: Refusal,
-    place: usize,
-}
-
 // A part of a file: where it starts, and how many bytes it has.
-struct Span {
+struct Extent {
     start: usize,
     bytes: usize,
 }
@@ -120,7 +99,11 @@ fn plain_end(at: usize, end: usize, need: usize) -> Reach
     requires { ⌜ at ≤ end ⌝ }
     ensures { λ r. ⌜ r ≡ plainEnd at end need ⌝ }
 {
-    if need <= end - at { Reach::At(at + need) } else { Reach::Short }
+    if need <= end - at {
+        Reach::At(at + need)
+    } else {
+        Reach::Short
+    }
 }
 
 // A `*` field: a count of four bytes, then so many elements.
@@ -146,61 +129,7 @@ fn triplet_end(file: &[u8], at: usize, end: usize, order: Order) -> Reach
     }
 }
 
-// Where the field of a column ends that starts at a place of a row.
-fn field_end(file: &[u8], at: usize, end: usize, column: ColumnLayout, order: Order) -> Reach
-    requires { ⌜ (at ≤ end) × (end ≤ length (now file)) ⌝ }
-    ensures { λ r. ⌜ r ≡ fieldEnd order (now (file .entry)) end column at ⌝ }
-{
-    let kind = column.kind;
-    if kind.is_triplet() {
-        return triplet_end(file, at, end, order);
-    }
-    if column.star {
-        return star_end(file, at, end, kind.width(), order);
-    }
-    plain_end(at, end, column.size as usize)
-}
-
-// ---- the walk over a row
-
-// Keeps a place in a slot; slots past the last keep nothing.
-fn keep_place(at: &mut [usize], slot: usize, place: usize)
-    ensures { λ _. ⌜ now (at .exit) ≡ set (now (at .entry)) slot place ⌝ }
-{
-    if slot < at.len() {
-        at[slot] = place;
-    }
-}
-
-// Past the columns 1..n of a row inside the file, keeping the places asked for.
-fn walk(file: &[u8], layout: Layout, start: usize, end: usize, slots: [u8; 64], n: usize) -> Places
-    requires { ⌜ (start ≤ end) × (end ≤ length (now file)) × (n ≤ mostColumns) ⌝ }
-    ensures { λ r. ⌜ r ≡ walked (now (file .entry)) layout start end slots n ⌝ }
-{
-    let order = layout.order;
-    let mut at = [0usize; 8];
-    let mut p = start;
-    let mut j: usize = 0;
-    while j < n {
-        keep_place(&mut at, slots[j] as usize, p);
-        match field_end(file, p, end, layout.cols[j], order) {
-            Reach::At(q) => {
-                p = q;
-            }
-            Reach::Short => {
-                let stop = Reach::Short;
-                return Places { reach: stop, at: at };
-            }
-            Reach::Cut(q) => {
-                let stop = Reach::Cut(q);
-                return Places { reach: stop, at: at };
-            }
-        }
-        j += 1;
-    }
-    let done = Reach::At(p);
-    Places { reach: done, at: at }
-}
+// ---- columns and rows that there are
 
 // The columns that a layout has: those past the 64th are not there.
 fn count_columns(layout: Layout) -> usize
@@ -221,26 +150,6 @@ pub fn no_such_row(rows: usize, row: usize) -> bool
     ensures { λ r. ⌜ r ≡ noSuch (min rows mostRows) row ⌝ }
 {
     no_such(lesser(rows, MOST_ROWS), row)
-}
-
-// The slots that ask for the id column and for one other, or for that one alone.
-fn slots_for(id: usize, column: usize) -> [u8; 64]
-    requires { ⌜ (0 < id) × (id ≤ mostColumns) × (0 < column) × (column ≤ mostColumns) ⌝ }
-    ensures { λ r. ⌜ r ≡ slotsFor id column ⌝ }
-{
-    let mut slots = [0u8; 64];
-    slots[id - 1] = ID_SLOT;
-    slots[column - 1] = COLUMN_SLOT;
-    slots
-}
-
-// The place that the walk kept for a column.
-fn kept_place(at: [usize; 8], slots: [u8; 64], column: usize) -> usize
-    requires { ⌜ (0 < column) × (column ≤ mostColumns) × (length at ≡ 8) ⌝ }
-    ensures { λ r. ⌜ r ≡ keptFor at slots column ⌝ }
-{
-    let slot = slots[column - 1] as usize;
-    if slot < 8 { at[slot] } else { 0 }
 }
 
 // ---- the judgement
@@ -288,98 +197,9 @@ pub fn place_within(start: usize, end: usize, offset: usize) -> usize
     end
 }
 
-// Where a column starts by its offset, in rows of one width.
-fn offset_place(layout: Layout, start: usize, end: usize, column: usize) -> usize
-    requires { ⌜ (start ≤ end) × (0 < column) × (column ≤ mostColumns) ⌝ }
-    ensures { λ r. ⌜ r ≡ offsetPlace layout start end column ⌝ }
-{
-    let c = layout.cols[column - 1];
-    place_within(start, end, c.offset as usize)
-}
-
-// A row that must be walked: once, for its id and for the column asked for.
-fn find_by_walk(file: &[u8], layout: Layout, start: usize, end: usize, row: usize, column: usize) -> Found
-    requires { ⌜ layout .width ≡ 0 ⌝ }
-    requires { ⌜ outside (now file) start end ≡ false ⌝ }
-    requires { ⌜ noSuchColumn layout (layout .id) ≡ false ⌝ }
-    requires { ⌜ noSuchColumn layout column ≡ false ⌝ }
-    ensures { λ r. ⌜ r ≡ foundOf (now (file .entry)) layout start end row column ⌝ }
-{
-    let id = layout.id;
-    let slots = slots_for(id, column);
-    let places = walk(file, layout, start, end, slots, count_columns(layout));
-    let at = places.at;
-    let reach = places.reach;
-    let order = layout.order;
-    let judged = judge_end(reach, end, row, judge_id(file, order, kept_place(at, slots, id), row));
-    let place = kept_place(at, slots, column);
-    Found { refusal: judged, place: place }
-}
-
-// A row of fixed width: nothing is walked.
-fn find_by_offset(file: &[u8], layout: Layout, start: usize, end: usize, row: usize, column: usize) -> Found
-    requires { ⌜ (layout .width ≡ 0 → ⊥) ⌝ }
-    requires { ⌜ outside (now file) start end ≡ false ⌝ }
-    requires { ⌜ noSuchColumn layout (layout .id) ≡ false ⌝ }
-    requires { ⌜ noSuchColumn layout column ≡ false ⌝ }
-    ensures { λ r. ⌜ r ≡ foundOf (now (file .entry)) layout start end row column ⌝ }
-{
-    let order = layout.order;
-    let judged = judge_id(file, order, offset_place(layout, start, end, layout.id), row);
-    let place = offset_place(layout, start, end, column);
-    Found { refusal: judged, place: place }
-}
-
-// The fields of a row: judged, and the column asked for found.
-fn find_column(file: &[u8], layout: Layout, start: usize, end: usize, row: usize, column: usize) -> Found
-    requires { ⌜ outside (now file) start end ≡ false ⌝ }
-    requires { ⌜ noSuchColumn layout (layout .id) ≡ false ⌝ }
-    requires { ⌜ noSuchColumn layout column ≡ false ⌝ }
-    ensures { λ r. ⌜ r ≡ foundOf (now (file .entry)) layout start end row column ⌝ }
-{
-    if layout.width == 0 {
-        return find_by_walk(file, layout, start, end, row, column);
-    }
-    find_by_offset(file, layout, start, end, row, column)
-}
-
-// A row in which no fields can be looked for: 10 outside the file, 9 where the layout has no id column.
-fn judge_place(file: &[u8], layout: Layout, start: usize, end: usize, row: usize) -> Refusal
-    ensures { λ r. ⌜ r ≡ placeRefusal (now (file .entry)) layout start end row ⌝ }
-{
-    if lies_outside(file, start, end) {
-        return refusal::refuse(WRONG_ROW, row);
-    }
-    if no_such(count_columns(layout), layout.id) {
-        return refusal::refuse(WRONG_ID, row);
-    }
-    refusal::no_refusal()
-}
-
-// One row: 10 and 11 by column, 10 where it is not used up, then 9.
-pub fn judge_row(file: &[u8], layout: Layout, start: usize, end: usize, row: usize) -> Refusal
-    ensures { λ r. ⌜ r ≡ rowRefusal (now (file .entry)) layout start end row ⌝ }
-{
-    let early = judge_place(file, layout, start, end, row);
-    if early.number != 0 {
-        return early;
-    }
-    let found = find_column(file, layout, start, end, row, layout.id);
-    found.refusal
-}
-
 // ---- where rows lie
 
-// The end of a row by its entry, which stands at 8k.
-fn entry_end(index: &[u8], order: Order, k: usize) -> usize
-    requires { ⌜ k < 4294967296 ⌝ }
-    ensures { λ r. ⌜ r ≡ entryEnd order (now (index .entry)) k ⌝ }
-{
-    let at = 8 * k;
-    number::read4(index, at, order) as usize + number::read4(index, at + 4, order) as usize
-}
-
-// The end of row k by its entry; of row 0, where row 1 starts.
+// The end of row k by its entry, which stands at 8k; of row 0, where row 1 starts.
 fn entry_bound(index: &[u8], order: Order, first: u32, k: usize) -> usize
     requires { ⌜ k < 4294967296 ⌝ }
     ensures { λ r. ⌜ r ≡ walkedBound order (now (index .entry)) first k ⌝ }
@@ -387,7 +207,8 @@ fn entry_bound(index: &[u8], order: Order, first: u32, k: usize) -> usize
     if k == 0 {
         return first as usize;
     }
-    entry_end(index, order, k)
+    let at = 8 * k;
+    number::read4(index, at, order) as usize + number::read4(index, at + 4, order) as usize
 }
 
 // The end of row k where all rows have one width.
@@ -419,7 +240,8 @@ pub fn read_row(file: &[u8], index: &[u8], table: Table, row: usize) -> Row
     let layout = table.layout;
     let start = bound_of(index, layout, row - 1);
     let end = bound_of(index, layout, row);
-    let judged = judge_row(file, layout, start, end, row);
+    let mut places = [0usize; MOST_COLUMNS];
+    let judged = rows::judge_row(file, layout, start, end, row, &mut places);
     if judged.number == 0 {
         return Row::Between(start, end);
     }
@@ -543,25 +365,46 @@ fn show(file: &[u8], column: ColumnLayout, place: usize, end: usize, order: Orde
     }
 }
 
-// The value of a column in the row between two places: the row judged first.
-fn value_between(file: &[u8], layout: Layout, start: usize, end: usize, row: usize, column: usize) -> Value
-    requires { ⌜ noSuchColumn layout column ≡ false ⌝ }
-    ensures {
-        λ r. ⌜ r ≡ inRow (unlessRefused (rowRefusal (now (file .entry)) layout start end row) start end)
-        (λ start end. shown (layout .order) (now (file .entry)) (columnAt layout column) (columnPlace (now (file .entry)) layout start end column) end) ⌝
-    }
+// Where a column starts in a row that is judged: as the walk kept it, or by its offset where all rows have one width.
+fn column_place(
+    places: &[usize; MOST_COLUMNS],
+    column: usize,
+    width: u32,
+    offset: usize,
+    start: usize,
+    end: usize,
+) -> usize
+    requires { ⌜ (0 < column) × (column ≤ mostColumns) ⌝ }
+    ensures { λ r. ⌜ r ≡ placeBy (now (places .entry)) column width offset start end ⌝ }
 {
-    let early = judge_place(file, layout, start, end, row);
-    if early.number != 0 {
-        return Value::Refused(early);
+    if width == 0 {
+        return places[column - 1];
     }
-    let found = find_column(file, layout, start, end, row, column);
-    let judged = found.refusal;
+    place_within(start, end, offset)
+}
+
+// The value of a column in the row between two places: the row judged first.
+fn value_between(
+    file: &[u8],
+    layout: Layout,
+    start: usize,
+    end: usize,
+    row: usize,
+    column: usize,
+) -> Value
+    requires { ⌜ noSuchColumn layout column ≡ false ⌝ }
+    ensures { λ r. ⌜ r ≡ inRow (unlessRefused (rowRefusal (now (file .entry)) layout start end row) start end)
+        (λ start end. shown (layout .order) (now (file .entry)) (columnAt layout column) (columnPlace (now (file .entry)) layout start end column) end) ⌝ }
+{
+    let mut places = [0usize; MOST_COLUMNS];
+    let judged = rows::judge_row(file, layout, start, end, row, &mut places);
     if judged.number != 0 {
         return Value::Refused(judged);
     }
+    let c = layout.cols[column - 1];
+    let place = column_place(&places, column, layout.width, c.offset as usize, start, end);
     let order = layout.order;
-    show(file, layout.cols[column - 1], found.place, end, order)
+    show(file, c, place, end, order)
 }
 
 // The value of a column in row i: 13 for the row, 13 for the column, the row's own refusals, then the value.
@@ -596,24 +439,24 @@ fn part<'a>(file: &'a [u8], start: usize, bytes: usize) -> &'a [u8]
 }
 
 // Where the part starts that a value shows, and how many bytes it has: none of a value that shows none.
-fn span_of(shown: Value) -> Span
-    ensures { λ r. ⌜ r ≡ spanOf shown ⌝ }
+fn extent_of(shown: Value) -> Extent
+    ensures { λ r. ⌜ r ≡ extentOf shown ⌝ }
 {
     match shown {
-        Value::Text(p, n) => Span { start: p, bytes: n },
-        Value::Date(p, n) => Span { start: p, bytes: n },
-        Value::Coordinates(p, n) => Span { start: p, bytes: n },
-        Value::Short(_) => Span { start: 0, bytes: 0 },
-        Value::ShortNull => Span { start: 0, bytes: 0 },
-        Value::Integer(_) => Span { start: 0, bytes: 0 },
-        Value::IntegerNull => Span { start: 0, bytes: 0 },
-        Value::Float(_) => Span { start: 0, bytes: 0 },
-        Value::FloatNull(_) => Span { start: 0, bytes: 0 },
-        Value::Double(_) => Span { start: 0, bytes: 0 },
-        Value::DoubleNull(_) => Span { start: 0, bytes: 0 },
-        Value::Triplet(_) => Span { start: 0, bytes: 0 },
-        Value::Empty => Span { start: 0, bytes: 0 },
-        Value::Refused(_) => Span { start: 0, bytes: 0 },
+        Value::Text(p, n) => Extent { start: p, bytes: n },
+        Value::Date(p, n) => Extent { start: p, bytes: n },
+        Value::Coordinates(p, n) => Extent { start: p, bytes: n },
+        Value::Short(_) => Extent { start: 0, bytes: 0 },
+        Value::ShortNull => Extent { start: 0, bytes: 0 },
+        Value::Integer(_) => Extent { start: 0, bytes: 0 },
+        Value::IntegerNull => Extent { start: 0, bytes: 0 },
+        Value::Float(_) => Extent { start: 0, bytes: 0 },
+        Value::FloatNull(_) => Extent { start: 0, bytes: 0 },
+        Value::Double(_) => Extent { start: 0, bytes: 0 },
+        Value::DoubleNull(_) => Extent { start: 0, bytes: 0 },
+        Value::Triplet(_) => Extent { start: 0, bytes: 0 },
+        Value::Empty => Extent { start: 0, bytes: 0 },
+        Value::Refused(_) => Extent { start: 0, bytes: 0 },
     }
 }
 
@@ -621,6 +464,6 @@ fn span_of(shown: Value) -> Span
 pub fn part_of<'a>(file: &'a [u8], shown: Value) -> &'a [u8]
     ensures { λ r. ⌜ now r ≡ partOf (now (file .entry)) shown ⌝ }
 {
-    let span = span_of(shown);
-    part(file, span.start, span.bytes)
+    let extent = extent_of(shown);
+    part(file, extent.start, extent.bytes)
 }

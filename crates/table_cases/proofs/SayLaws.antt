@@ -32,7 +32,8 @@ module _ (z : ℤ) (f : SFits w64 z) where
   pub as-unsigned : ltZ (toZ w64 (ofZ w64 z)) (pos 0) ≡ false → T (nonNeg (toZ w64 (ofZ w64 z))) × Fits w64 (natAbs (toZ w64 (ofZ w64 z)))
   as-unsigned e =
       let q = toZ-ofZ f in
-      subst (λ (x : ℤ). T (nonNeg x) × Fits w64 (natAbs x)) (sym q) (not-negative z (subst (λ (x : ℤ). ltZ x (pos 0) ≡ false) q e), fits-natAbs tt f)
+      subst (λ (x : ℤ). T (nonNeg x) × Fits w64 (natAbs x)) (sym q)
+      (not-negative z (subst (λ (x : ℤ). ltZ x (pos 0) ≡ false) q e), fits-natAbs tt f)
 
   -- -1 - z of a negative number is one less than what stands after its sign
   abbrev flipped : ℤ

@@ -6,28 +6,23 @@
 ghost use Prim.Native.Nat.{_≤_};
 use bounds::Rectangle32;
 use bounds::Rectangle64;
+use casefile::say;
+use casefile::say_bytes;
+use casefile::say_number;
+use casefile::say_refusal;
 use header::Answer;
-use header::MOST_COLUMNS;
 use libc::STDOUT_FILENO;
+use limits::MOST_COLUMNS;
 use number::Order;
-use rectangle::Found;
-use refusal::Refusal;
 use opening::Opened;
-use table::Row;
 use opening::Table;
+use rectangle::Found;
+use table::Row;
 use table::Value;
 use triplet::Ids;
 
 // No case opens a table of more rows.
 const MOST_SHOWN: usize = 100;
-
-fn say(text: &[u8]) {
-    io::write_all(STDOUT_FILENO, text);
-}
-
-fn say_number(n: u64) {
-    io::print_decimal(STDOUT_FILENO, n);
-}
 
 // A negative number by what stands after its sign.
 fn say_signed(n: i64) {
@@ -47,25 +42,6 @@ fn say_short(n: i16) {
 fn say_integer(n: i32) {
     say(b"integer ");
     say_signed(n as i64);
-}
-
-fn say_refusal(bad: Refusal) {
-    say(b"refused ");
-    say_number(bad.number as u64);
-    say(b" at ");
-    say_number(bad.place as u64);
-}
-
-fn say_byte(b: u8) {
-    io::print_hex(STDOUT_FILENO, b as u64, 2);
-}
-
-fn say_bytes(bytes: &[u8]) {
-    let mut i = 0;
-    while i < bytes.len() {
-        say_byte(bytes[i]);
-        i += 1;
-    }
 }
 
 // The pattern of a float: of four bytes, of eight.

@@ -1,29 +1,27 @@
 // What the program writes of a directory, as bytes in a lent array: document 01's lines for the tile that its files say, or the refusal with
 // its file, number and place. The columns, the owner marks and the side list are its own, so that nothing else is left changed.
 use directory::Outcome;
+use directory::Sizes;
+use limits::PROGRAM_ROWS;
+use limits::PROGRAM_SIDES;
 use load::Counts;
-use report::LINE_ROOM;
-use report::MOST_ROWS;
-use report::Sizes;
 use tile::Walked;
 ghost use mathlib.Core.Path.{_≡_};
 ghost use Prim.Native.Nat.{_+_, _*_, _≤_};
 ghost use lib.ListN.{length};
 ghost use lib.Seq.{sets};
-ghost use Rattle.report.specs.Files.{mostRows};
+ghost use Rattle.limits.specs.Limits.{programRows, programSides};
 ghost use Rattle.report.specs.Lines.{lineRoom, ringLine, stepsLine, withFront};
 ghost use Rattle.directory.specs.declared.Outcome.the-variants.{Accepted};
-ghost use Rattle.directory.specs.Columns.{columns, held};
+ghost use Rattle.load.specs.Columns.{columns};
+ghost use Rattle.directory.specs.Columns.{held};
 ghost use Rattle.directory.specs.Files.{directory};
 ghost use Rattle.tile.specs.Walk.{stepsOf};
 ghost use Rattle.directory.specs.Outcome.{checkedOf};
-ghost use Rattle.teller.specs.Text.{mostSides, mostText, acceptedText, loadedText, textOf};
+ghost use Rattle.teller.specs.Text.{textSpace, acceptedText, loadedText, textOf};
 
 // Room for every text, also of tables of 2,000 rows: 62,062 bytes.
-pub const MOST_TEXT: usize = 65536;
-
-// Two sides to an edge.
-const MOST_SIDES: usize = 2000;
+pub const TEXT_SPACE: usize = 65536;
 
 // The steps of a walk. In an accepted tile every walk has them.
 fn steps_of(walked: Walked) -> usize
@@ -56,25 +54,25 @@ fn add_steps(text: &mut [u8], at: usize, all: usize) -> usize
 // The lines of an accepted tile: its counts, its rings row after row, and the steps of all.
 fn tell_rings(
     counts: Counts,
-    start_node: &[u32; MOST_ROWS],
-    end_node: &[u32; MOST_ROWS],
-    right_face: &[u32; MOST_ROWS],
-    left_face: &[u32; MOST_ROWS],
-    right_edge: &[u32; MOST_ROWS],
-    left_edge: &[u32; MOST_ROWS],
-    ring_ptr: &[u32; MOST_ROWS],
-    fac_id: &[u32; MOST_ROWS],
-    start_edge: &[u32; MOST_ROWS],
-    first_edge: &[u32; MOST_ROWS],
+    start_node: &[u32; PROGRAM_ROWS],
+    end_node: &[u32; PROGRAM_ROWS],
+    right_face: &[u32; PROGRAM_ROWS],
+    left_face: &[u32; PROGRAM_ROWS],
+    right_edge: &[u32; PROGRAM_ROWS],
+    left_edge: &[u32; PROGRAM_ROWS],
+    ring_ptr: &[u32; PROGRAM_ROWS],
+    fac_id: &[u32; PROGRAM_ROWS],
+    start_edge: &[u32; PROGRAM_ROWS],
+    first_edge: &[u32; PROGRAM_ROWS],
     text: &mut [u8],
 ) -> usize
-    requires { ⌜ (mostText ≤ length (now text)) × (counts .faces ≤ mostRows) × (counts .rings ≤ mostRows) ⌝ }
+    requires { ⌜ (textSpace ≤ length (now text)) × (counts .faces ≤ programRows) × (counts .rings ≤ programRows) ⌝ }
     requires { ⌜ checkedOf counts
         (columns (now «start_node») (now «end_node») (now «right_face»)
         (now «left_face») (now «right_edge») (now «left_edge»)
         (now «ring_ptr») (now «fac_id»)
         (now «start_edge») (now «first_edge»))
-        mostSides ≡ Accepted counts ⌝ }
+        programSides ≡ Accepted counts ⌝ }
     ensures { λ r. ⌜ r ≡ length (acceptedText counts
         (held counts (columns (now («start_node» .entry)) (now («end_node» .entry)) (now («right_face» .entry))
         (now («left_face» .entry)) (now («right_edge» .entry)) (now («left_edge» .entry))
@@ -87,7 +85,7 @@ fn tell_rings(
         (now («start_edge» .entry)) (now («first_edge» .entry)))))
         (now (text .entry)) ⌝ }
 {
-    let mut sides = [0u32; MOST_SIDES];
+    let mut sides = [0u32; PROGRAM_SIDES];
     let rings = counts.rings;
     let mut at = report::accept_line(counts, text);
     let mut all: usize = 0;
@@ -119,19 +117,19 @@ fn tell_rings(
 // What is written of a loaded tile: its lines, or the check's refusal.
 fn tell_loaded(
     counts: Counts,
-    start_node: &[u32; MOST_ROWS],
-    end_node: &[u32; MOST_ROWS],
-    right_face: &[u32; MOST_ROWS],
-    left_face: &[u32; MOST_ROWS],
-    right_edge: &[u32; MOST_ROWS],
-    left_edge: &[u32; MOST_ROWS],
-    ring_ptr: &[u32; MOST_ROWS],
-    fac_id: &[u32; MOST_ROWS],
-    start_edge: &[u32; MOST_ROWS],
-    first_edge: &[u32; MOST_ROWS],
+    start_node: &[u32; PROGRAM_ROWS],
+    end_node: &[u32; PROGRAM_ROWS],
+    right_face: &[u32; PROGRAM_ROWS],
+    left_face: &[u32; PROGRAM_ROWS],
+    right_edge: &[u32; PROGRAM_ROWS],
+    left_edge: &[u32; PROGRAM_ROWS],
+    ring_ptr: &[u32; PROGRAM_ROWS],
+    fac_id: &[u32; PROGRAM_ROWS],
+    start_edge: &[u32; PROGRAM_ROWS],
+    first_edge: &[u32; PROGRAM_ROWS],
     text: &mut [u8],
 ) -> usize
-    requires { ⌜ mostText ≤ length (now text) ⌝ }
+    requires { ⌜ textSpace ≤ length (now text) ⌝ }
     ensures { λ r. ⌜ r ≡ length (loadedText counts
         (columns (now («start_node» .entry)) (now («end_node» .entry)) (now («right_face» .entry))
         (now («left_face» .entry)) (now («right_edge» .entry)) (now («left_edge» .entry))
@@ -144,7 +142,7 @@ fn tell_loaded(
         (now («start_edge» .entry)) (now («first_edge» .entry))))
         (now (text .entry)) ⌝ }
 {
-    let mut marks = [0u32; MOST_SIDES];
+    let mut marks = [0u32; PROGRAM_SIDES];
     match directory::check_loaded(
         counts,
         start_node,
@@ -191,7 +189,7 @@ pub fn tell_tile(
     rng: &[u8],
     cnd: &[u8],
     cnx: &[u8],
-    text: &mut [u8; MOST_TEXT],
+    text: &mut [u8; TEXT_SPACE],
 ) -> usize
     ensures { λ r. ⌜ r ≡ length (textOf sizes
         (directory (now (edg .entry)) (now (edx .entry)) (now (fac .entry)) (now (rng .entry))
@@ -201,16 +199,16 @@ pub fn tell_tile(
         (now (cnd .entry)) (now (cnx .entry))))
         (now (text .entry)) ⌝ }
 {
-    let mut start_node = [0u32; MOST_ROWS];
-    let mut end_node = [0u32; MOST_ROWS];
-    let mut right_face = [0u32; MOST_ROWS];
-    let mut left_face = [0u32; MOST_ROWS];
-    let mut right_edge = [0u32; MOST_ROWS];
-    let mut left_edge = [0u32; MOST_ROWS];
-    let mut ring_ptr = [0u32; MOST_ROWS];
-    let mut fac_id = [0u32; MOST_ROWS];
-    let mut start_edge = [0u32; MOST_ROWS];
-    let mut first_edge = [0u32; MOST_ROWS];
+    let mut start_node = [0u32; PROGRAM_ROWS];
+    let mut end_node = [0u32; PROGRAM_ROWS];
+    let mut right_face = [0u32; PROGRAM_ROWS];
+    let mut left_face = [0u32; PROGRAM_ROWS];
+    let mut right_edge = [0u32; PROGRAM_ROWS];
+    let mut left_edge = [0u32; PROGRAM_ROWS];
+    let mut ring_ptr = [0u32; PROGRAM_ROWS];
+    let mut fac_id = [0u32; PROGRAM_ROWS];
+    let mut start_edge = [0u32; PROGRAM_ROWS];
+    let mut first_edge = [0u32; PROGRAM_ROWS];
     match directory::load_files(
         sizes,
         edg,

@@ -33,11 +33,10 @@ use Rattle.side.specs.declared.Successor.the-variants.{Side}
 use Rattle.side.proofs.SuccessorExactly.{not-outside, after-side, successor-side}
 use Rattle.tile.specs.Columns.{Tile, E, R, sides, startSide}
 use Rattle.tile.specs.Check.{verdict, verdictOf, marksLeft, marksAfter}
-use Rattle.tile.specs.Walk.{moves, walkOf, sideAfter, stepsOf, allSteps, ringSteps, ringSides}
+use Rattle.tile.specs.Walk.{Back, moves, walkOf, sideAfter, stepsOf, allSteps, ringSteps, ringSides}
 use Rattle.tile.specs.Facts.{Facts}
 use Rattle.tile.specs.Demand.{Closed, Walks, Stands, OneRing, OneEmptyRing, Demand3}
 use Rattle.tile.specs.declared.Verdict.the-variants.{Accepted}
-use Rattle.tile.specs.declared.Moves.the-variants.{Back}
 use Rattle.tile.specs.declared.Walked.the-variants.{Steps}
 use Rattle.tile.proofs.TestsInWords.{sizes-exactly, goes, single, Placed, start-side, start-exactly, start-placed, named-exactly, covered-exactly}
 use Rattle.tile.proofs.AcceptedExactly.{accepted, accepted-number}
@@ -55,7 +54,8 @@ module _ (t : Tile) (space : ℕ) (h : Facts t space) where
   pub counts-return : (a : ℕ) → In (sides t) a → moves (t .edg) a ≡ Back (firstReturn (after (t .edg)) (sides t) a)
   counts-return a i =
       let k = firstReturn (after (t .edg)) (sides t) a in
-      counts-the-return (t .edg) a k (first-return-lowest (t .edg) a (i .0) k .1 (closes (after (t .edg)) (sides t) into once a (i .0) (i .1) .pos, refl))
+      counts-the-return (t .edg) a k (first-return-lowest (t .edg) a (i .0) k .1
+      (closes (after (t .edg)) (sides t) into once a (i .0) (i .1) .pos, refl))
 
   -- along a walk the face stays
   face-stays : (k s : ℕ) → In (sides t) s → face (t .edg) (iterate (after (t .edg)) k s) ≡ face (t .edg) s
@@ -87,32 +87,38 @@ module _ (t : Tile) (space : ℕ) (h : Facts t space) where
     steps r i = rw (ne-eqb (startSide t r) 0 (λ e. omega (arith, place r i .pos)))
 
     never-twice : firstTaken (after (t .edg)) (sides t) (startSide t) (R t) ≡ 0
-    never-twice = lowest-none _ (R t) (λ r a b. named-exactly t (h .successors) (h .predecessors) (h .starts) r (a, b) .1 (h .not-named-twice r (a, b)))
+    never-twice = lowest-none _ (R t) (λ r a b.
+        named-exactly t (h .successors) (h .predecessors) (h .starts) r (a, b) .1 (h .not-named-twice r (a, b)))
 
     all-met : firstUnmet (after (t .edg)) (sides t) (startSide t) (R t) ≡ 0
-    all-met = lowest-none _ (sides t) (λ s a b. covered-exactly t (h .successors) (h .predecessors) (h .starts) s (a, b) .1 (h .covered s (a, b)))
+    all-met = lowest-none _ (sides t) (λ s a b.
+        covered-exactly t (h .successors) (h .predecessors) (h .starts) s (a, b) .1 (h .covered s (a, b)))
 
     module _ (r : ℕ) (i : In (R t) r) where
       in-place : (k : ℕ) → In (sides t) (iterate (after (t .edg)) k (startSide t r))
       in-place k = let S = place r i in iterate-in (after (t .edg)) (sides t) into k (startSide t r) (S .pos) (S .within)
 
       steps-in : In (sides t) (ringSteps t r)
-      steps-in = let S = place r i in let C = closes (after (t .edg)) (sides t) into once (startSide t r) (S .pos) (S .within) in rw (steps r i) (C .pos, C .within)
+      steps-in = let S = place r i in let C = closes (after (t .edg)) (sides t) into once (startSide t r) (S .pos)
+          (S .within) in rw (steps r i) (C .pos, C .within)
 
       comes-back : iterate (after (t .edg)) (ringSteps t r) (startSide t r) ≡ startSide t r
       comes-back = let S = place r i in rw (steps r i) (returns-to (after (t .edg)) (sides t) into once (startSide t r) (S .pos) (S .within))
 
       apart : (j k : ℕ) → j < k → k < ringSteps t r → iterate (after (t .edg)) j (startSide t r) ≡ iterate (after (t .edg)) k (startSide t r) → ⊥
-      apart j k l m e = let S = place r i in let q = steps r i in no-repeat (after (t .edg)) (sides t) into once (startSide t r) (S .pos) (S .within) j k l (omega arith) e
+      apart j k l m e = let S = place r i in let q = steps r i in no-repeat (after (t .edg)) (sides t) into once
+          (startSide t r) (S .pos) (S .within) j k l (omega arith) e
 
-      moves-on : (k : ℕ) → successor (t .edg) (iterate (after (t .edg)) k (startSide t r)) ≡ Side (iterate (after (t .edg)) (suc k) (startSide t r))
+      moves-on : (k : ℕ) → successor (t .edg) (iterate (after (t .edg)) k (startSide t r)) ≡ Side
+          (iterate (after (t .edg)) (suc k) (startSide t r))
       moves-on k = after-side (t .edg) _ (in-place (suc k) .0)
 
       written : (j : ℕ) → In (ringSteps t r) j → entry (ringSides t r) j ≡ iterate (after (t .edg)) (pred j) (startSide t r)
       written j b = entry-listed (sideAfter t r) (ringSteps t r) j (b .0) (b .1)
 
       -- THE WALK COMES BACK to its first side and meets no side twice
-      follows : (j : ℕ) → In (ringSteps t r) j → (u : ℕ) → iterate (after (t .edg)) j (startSide t r) ≡ u → successor (t .edg) (entry (ringSides t r) j) ≡ Side u
+      follows : (j : ℕ) → In (ringSteps t r) j → (u : ℕ) → iterate (after (t .edg)) j (startSide t r) ≡ u
+          → successor (t .edg) (entry (ringSides t r) j) ≡ Side u
       follows j b u v =
           let q : suc (pred j) ≡ j = omega arith in
           ap (successor (t .edg)) (written j b) ∙ moves-on (pred j) ∙ ap Side (ap (λ (m : ℕ). iterate (after (t .edg)) m (startSide t r)) q ∙ v)
@@ -145,8 +151,12 @@ module _ (t : Tile) (space : ℕ) (h : Facts t space) where
           by-cases (decLt (w .0) (ringSteps t r))
           (λ c. (suc (w .0), (omega arith, omega arith), written (suc (w .0)) (omega arith, c) ∙ w .3 ∙ e))
           (λ c.
-          let z : w .0 ≡ ringSteps t r = omega (arith, w .2) in
-          (1, (omega arith, omega (arith, steps-in .0)), written 1 (omega arith, steps-in .0) ∙ sym comes-back ∙ ap (λ (m : ℕ). iterate (after (t .edg)) m (startSide t r)) (sym z) ∙ w .3 ∙ e))
+          let z : w .0 ≡ ringSteps t r = omega (arith, w .2) in (
+            1,
+            (omega arith, omega (arith, steps-in .0)),
+            written 1 (omega arith, steps-in .0) ∙ sym comes-back
+                ∙ ap (λ (m : ℕ). iterate (after (t .edg)) m (startSide t r)) (sym z) ∙ w .3 ∙ e,
+          ))
 
       stands-met : (s : ℕ) → Stands t r s → meets (after (t .edg)) (sides t) (startSide t r) s ≡ true
       stands-met s w =

@@ -18,7 +18,8 @@ use Rattle.tile.proofs.TestsInWords.{judged-named, judged-covered}
 
 -- no two tests have one place in the order
 order : List Test
-order = sizes ∷ owner-space ∷ nodes ∷ faces ∷ links ∷ successors ∷ predecessors ∷ first-edges ∷ ring-faces ∷ runs ∷ starts ∷ not-named-twice ∷ covered ∷ []
+order = sizes ∷ owner-space ∷ nodes ∷ faces ∷ links ∷ successors ∷ predecessors ∷ first-edges ∷ ring-faces ∷ runs
+    ∷ starts ∷ not-named-twice ∷ covered ∷ []
 
 at-rank : (x : Test) → getD order (rank x) covered ≡ x
 unfolding order
@@ -80,8 +81,21 @@ module _ (t : Tile) (space : ℕ) where
                       (
                         (starts, refl, λ e. judged-starts t),
                         (
-                          (not-named-twice, refl, λ e. judged-named t (e successors (omega arith)) (e predecessors (omega arith)) (e starts (omega arith))),
-                          ((covered, refl, λ e. judged-covered t (e successors (omega arith)) (e predecessors (omega arith)) (e starts (omega arith))), tt),
+                          (
+                            not-named-twice,
+                            refl,
+                            λ e. judged-named t (e successors (omega arith))
+                                (e predecessors (omega arith)) (e starts (omega arith)),
+                          ),
+                          (
+                            (
+                              covered,
+                              refl,
+                              λ e. judged-covered t (e successors (omega arith))
+                                  (e predecessors (omega arith)) (e starts (omega arith)),
+                            ),
+                            tt,
+                          ),
                         ),
                       ),
                     ),
@@ -121,7 +135,8 @@ module _ (t : Tile) (space : ℕ) where
   not-both covered n p f h = fails-not-each _ _ p (f .1) h
 
   -- nor fail in two ways, the earlier ones holding
-  one-way : (x : Test) (n p m q : ℕ) → ((y : Test) → rank y < rank x → Holds t space y) → FailsAt t space x n p → FailsAt t space x m q → (n ≡ m) × (p ≡ q)
+  one-way : (x : Test) (n p m q : ℕ) → ((y : Test) → rank y < rank x → Holds t space y) → FailsAt t space x n p
+      → FailsAt t space x m q → (n ≡ m) × (p ≡ q)
   one-way sizes n p m q e f g = (f .0 ∙ sym (g .0), f .1 ∙ sym (g .1))
   one-way owner-space n p m q e f g = (f .0 ∙ sym (g .0), f .1 ∙ sym (g .1))
   one-way nodes n p m q e f g = (f .0 ∙ sym (g .0), lowest-one _ _ p q (f .1) (g .1))

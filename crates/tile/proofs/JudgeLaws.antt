@@ -1,33 +1,33 @@
 -- What each part of the tests leaves to the next, and the parts joined.
 use mathlib.Core.Path.{_≡_, refl, sym, ap, _∙_}
 use mathlib.Core.Logic.{_⊎_, inl, inr, ⊎-elim}
-use mathlib.Core.Bool.{Bool, true, false, cond, not, _&&_, _||_, true≢false}
-use mathlib.Core.List.{List, [], _∷_, _++_}
-use Prim.Native.Nat.{ℕ, _*_, _≤_, _<_}
+use mathlib.Core.Bool.{Bool, true, false, not, _&&_, _||_, true≢false}
+use mathlib.Core.List.{List, _∷_, _++_}
+use Prim.Native.Nat.{ℕ, _≤_, _<_}
 use native.Mathlib.Omega.{arith}
 use lib.Dec.{eqb, ltb}
 use lib.ListN.{length}
 use borrow.Author.Tests.{eq-eqb, ne-eqb, eqb-true, le-ltb, lt-ltb, ltb-false}
-use Rattle.laws.specs.Lowest.{lowest, None}
-use Rattle.laws.specs.Orbit.{entry, firstDoubled, firstTaken}
+use Rattle.laws.specs.Lowest.{lowest}
+use Rattle.laws.specs.Orbit.{entry, firstDoubled}
 use Rattle.laws.specs.Buffer.{front}
-use Rattle.laws.specs.Marks.{zeros, count, ownerAt}
-use Rattle.laws.proofs.LowestLaws.{bool-cases, lowest-zero, lowest-none}
+use Rattle.laws.specs.Marks.{zeros}
+use Rattle.laws.proofs.LowestLaws.{lowest-zero, lowest-none}
 use Rattle.laws.proofs.MarkLaws.{over-front}
 use Rattle.refusal.specs.declared.Refusal.{Refusal}
 use Rattle.refusal.specs.Order.{refusal, fine, refusedIf, located, first, firstOf, lowestOf}
-use Rattle.refusal.proofs.OrderLaws.{first-passes, first-refuses, both, passed-all, located-passes, lowest-fine, stops, goes-on, part-stops}
-use Rattle.refusal.proofs.OrderLaws.{part-goes-on, Numbered, AllNumbered, first-numbered, located-numbered, lowest-numbered}
+use Rattle.refusal.proofs.OrderLaws.{passed-all, located-passes, lowest-fine, stops, goes-on, part-stops}
+use Rattle.refusal.proofs.OrderLaws.{part-goes-on, Numbered, first-numbered, located-numbered, lowest-numbered}
 use Rattle.side.specs.Edges.{Edges, edgeCount, sideCount}
 use Rattle.side.specs.Successor.{successor, after}
 use Rattle.side.specs.declared.Successor.{Successor}
 use Rattle.side.specs.declared.Successor.the-variants.{Side, Wrong}
 use Rattle.side.proofs.SideLaws.{Sound, successor-sound}
-use Rattle.tile.specs.Columns.{Tile, E, F, R, N, sides, mostRows, Regular, sideWith, startSide, emptyAllowed, emptyStart}
+use Rattle.limits.specs.Limits.{mostRows}
+use Rattle.tile.specs.Columns.{Tile, E, F, R, N, sides, Regular, sideWith, startSide, emptyStart}
 use Rattle.tile.specs.Check.{slicesUnequal, tooManyRows, sizesWrong, refusedSide, edgeSideRefusal, tests, verdict, verdictOf, marksLeft, marksAfter}
 use Rattle.tile.specs.Serving.Stages.{edgeTests, ringTests, ownerTests, startMissing, startOf, lacksStart, ownersPainted, ringsOf}
 use Rattle.tile.specs.Serving.Stages.{ownersOf, afterEdges, laterTests, marksJudged}
-use Rattle.tile.specs.declared.Verdict.{Verdict}
 use Rattle.tile.specs.declared.Verdict.the-variants.{Accepted, Refused}
 use Rattle.tile.proofs.TestsInWords.{sizes-exactly}
 use Rattle.tile.proofs.OwnerLaws.{all-painted}
@@ -40,7 +40,8 @@ or-false false b e = (refl, e)
 pub rows-within : (t : Tile) → sizesWrong t ≡ false → (E t ≤ mostRows) × (R t ≤ mostRows)
 unfolding sizesWrong tooManyRows
 rows-within t e =
-    let a = or-false (tooManyRows t) (eqb (F t) 0 || eqb (R t) 0) (or-false (slicesUnequal t) (tooManyRows t || (eqb (F t) 0 || eqb (R t) 0)) e .1) .0 in
+    let a = or-false (tooManyRows t) (eqb (F t) 0 || eqb (R t) 0)
+    (or-false (slicesUnequal t) (tooManyRows t || (eqb (F t) 0 || eqb (R t) 0)) e .1) .0 in
     let b = or-false (ltb mostRows (E t)) (ltb mostRows (F t) || (ltb mostRows (R t) || ltb mostRows (N t))) a in
     let c = or-false (ltb mostRows (F t)) (ltb mostRows (R t) || ltb mostRows (N t)) (b .1) in
     let d = or-false (ltb mostRows (R t)) (ltb mostRows (N t)) (c .1) in
@@ -51,7 +52,8 @@ pub regular : (t : Tile) → sizesWrong t ≡ false → Regular (t .edg)
 regular t e = let s = sizes-exactly t .0 e in (s .edge-rows, s .end-node, s .right-face, s .left-face, s .right-edge, s .left-edge)
 
 -- ---- the edges' tests passed: every side has a successor
-pub sides-fine : (t : Edges) (faces nodes : ℕ) → firstOf (edgeTests t faces nodes) .number ≡ 0 → lowestOf (edgeSideRefusal t) (sideCount t) ≡ fine
+pub sides-fine : (t : Edges) (faces nodes : ℕ) → firstOf (edgeTests t faces nodes) .number ≡ 0
+    → lowestOf (edgeSideRefusal t) (sideCount t) ≡ fine
 unfolding edgeTests
 sides-fine t faces nodes e = lowest-fine (edgeSideRefusal t) (sideCount t) (passed-all (edgeTests t faces nodes) e .1 .1 .1 .0)
 
@@ -63,25 +65,30 @@ started true false c d true e = absurd (true≢false e)
 started false b c d true e = absurd (true≢false e)
 
 module _ (t : Edges) (rp fi se : List ℕ) where
-  start-found : (r : ℕ) → startMissing (edgeCount t) (length rp) (length fi) (t .rightFace) (t .leftFace) (entry fi r) (entry se r) ≡ false → lacksStart t fi se r ≡ false
+  start-found : (r : ℕ) → startMissing (edgeCount t) (length rp) (length fi) (t .rightFace) (t .leftFace) (entry fi r)
+      (entry se r) ≡ false → lacksStart t fi se r ≡ false
   unfolding startMissing lacksStart startOf
   start-found r e =
       ⊎-elim
       (λ h. rw h)
-      (λ h. let z = eqb-true (edgeCount t) 0 h in rw (le-ltb 0 (edgeCount t) (omega arith)) (and-right (eqb (sideWith (edgeCount t) (t .rightFace) (t .leftFace) (entry fi r) (entry se r)) 0)))
-      (started (eqb (entry se r) 0) (eqb (edgeCount t) 0) (eqb (length rp) 1) (eqb (length fi) 1) (eqb (sideWith (edgeCount t) (t .rightFace) (t .leftFace) (entry fi r) (entry se r)) 0) e)
+      (λ h. let z = eqb-true (edgeCount t) 0 h in rw (le-ltb 0 (edgeCount t) (omega arith))
+      (and-right (eqb (sideWith (edgeCount t) (t .rightFace) (t .leftFace) (entry fi r) (entry se r)) 0)))
+      (started (eqb (entry se r) 0) (eqb (edgeCount t) 0) (eqb (length rp) 1) (eqb (length fi) 1)
+      (eqb (sideWith (edgeCount t) (t .rightFace) (t .leftFace) (entry fi r) (entry se r)) 0) e)
     where
       and-right : (a : Bool) → (a && false) ≡ false
       and-right true = refl
       and-right false = refl
 
-  pub starts-found : (fe : List ℕ) → firstOf (ringTests (t .startNode) (t .endNode) (t .rightFace) (t .leftFace) rp fi se fe) .number ≡ 0 → lowest (lacksStart t fi se) (length fi) ≡ 0
+  pub starts-found : (fe : List ℕ) → firstOf
+      (ringTests (t .startNode) (t .endNode) (t .rightFace) (t .leftFace) rp fi se fe) .number ≡ 0 → lowest (lacksStart t fi se) (length fi) ≡ 0
   unfolding ringTests
   starts-found fe e =
       let p = passed-all (ringTests (t .startNode) (t .endNode) (t .rightFace) (t .leftFace) rp fi se fe) e in
       let z = located-passes 29 _ (λ e. omega arith) (p .1 .1 .1 .0) in
       lowest-none (lacksStart t fi se) (length fi)
-      (λ r a b. start-found r (lowest-zero (λ r. startMissing (edgeCount t) (length rp) (length fi) (t .rightFace) (t .leftFace) (entry fi r) (entry se r)) (length fi) z .fails r a b))
+      (λ r a b. start-found r (lowest-zero (λ r.
+      startMissing (edgeCount t) (length rp) (length fi) (t .rightFace) (t .leftFace) (entry fi r) (entry se r)) (length fi) z .fails r a b))
 
 -- ---- 20 to 31 in order, part by part: a part that refuses is the answer
 module _ (t : Tile) (a : Refusal) (e : a ≡ firstOf (edgeTests (t .edg) (F t) (N t))) where
@@ -92,24 +99,28 @@ module _ (t : Tile) (a : Refusal) (e : a ≡ firstOf (edgeTests (t .edg) (F t) (
   module _ (n : a .number ≡ 0) (b : Refusal) (f : b ≡ located 26 (firstDoubled (after (t .edg)) (sides t))) where
     pub at-predecessors : (b .number ≡ 0 → ⊥) → b ≡ firstOf (laterTests t)
     unfolding laterTests
-    at-predecessors m = part-goes-on (edgeTests (t .edg) (F t) (N t)) (afterEdges t) a b e n (stops (located 26 (firstDoubled (after (t .edg)) (sides t))) b (ringsOf t ++ ownersOf t) f m)
+    at-predecessors m = part-goes-on (edgeTests (t .edg) (F t) (N t)) (afterEdges t) a b e n
+        (stops (located 26 (firstDoubled (after (t .edg)) (sides t))) b (ringsOf t ++ ownersOf t) f m)
 
     module _ (m : b .number ≡ 0) (c : Refusal) (g : c ≡ firstOf (ringsOf t)) where
       pub at-rings : (c .number ≡ 0 → ⊥) → c ≡ firstOf (laterTests t)
       unfolding laterTests
       at-rings l =
           part-goes-on (edgeTests (t .edg) (F t) (N t)) (afterEdges t) a c e n
-          (goes-on (located 26 (firstDoubled (after (t .edg)) (sides t))) b c (ringsOf t ++ ownersOf t) f m (part-stops (ringsOf t) (ownersOf t) c g l))
+          (goes-on (located 26 (firstDoubled (after (t .edg)) (sides t))) b c (ringsOf t ++ ownersOf t) f m
+          (part-stops (ringsOf t) (ownersOf t) c g l))
 
       pub at-owners : c .number ≡ 0 → (d : Refusal) → d ≡ firstOf (ownersOf t) → d ≡ firstOf (laterTests t)
       unfolding laterTests
       at-owners l d h =
           part-goes-on (edgeTests (t .edg) (F t) (N t)) (afterEdges t) a d e n
-          (goes-on (located 26 (firstDoubled (after (t .edg)) (sides t))) b d (ringsOf t ++ ownersOf t) f m (part-goes-on (ringsOf t) (ownersOf t) c d g l h))
+          (goes-on (located 26 (firstDoubled (after (t .edg)) (sides t))) b d (ringsOf t ++ ownersOf t) f m
+          (part-goes-on (ringsOf t) (ownersOf t) c d g l h))
 
 -- ---- the marks: zeros where a part refuses, the owners where none does
 module _ (t : Tile) (d : List ℕ) where
-  pub erased : (q : Refusal) → (q .number ≡ 0 → ⊥) → (g : ℕ → ℕ) (m e : List ℕ) → m ≡ front g (sides t) d → e ≡ front zeros (sides t) m → e ≡ marksJudged t q d
+  pub erased : (q : Refusal) → (q .number ≡ 0 → ⊥) → (g : ℕ → ℕ) (m e : List ℕ) → m ≡ front g (sides t) d
+      → e ≡ front zeros (sides t) m → e ≡ marksJudged t q d
   unfolding marksJudged
   erased q n g m e u v = rw (ne-eqb (q .number) 0 n) (over-front zeros g (sides t) d m e u v)
 
@@ -118,15 +129,18 @@ module _ (t : Tile) (d : List ℕ) where
   erased-at-once q n e v = rw (ne-eqb (q .number) 0 n) v
 
   -- what the painting leaves is a front too
-  pub painted-front : (g : ℕ → ℕ) (m e : List ℕ) → m ≡ front g (sides t) d → e ≡ ownersPainted (t .edg) (t .facId) (t .startEdge) m → e ≡ ownersPainted (t .edg) (t .facId) (t .startEdge) d
+  pub painted-front : (g : ℕ → ℕ) (m e : List ℕ) → m ≡ front g (sides t) d
+      → e ≡ ownersPainted (t .edg) (t .facId) (t .startEdge) m → e ≡ ownersPainted (t .edg) (t .facId) (t .startEdge) d
   unfolding ownersPainted
   painted-front g m e u v = over-front _ g (sides t) d m e u v
 
-  pub painted-erased : (q : Refusal) → (q .number ≡ 0 → ⊥) → (m e : List ℕ) → m ≡ ownersPainted (t .edg) (t .facId) (t .startEdge) d → e ≡ front zeros (sides t) m → e ≡ marksJudged t q d
+  pub painted-erased : (q : Refusal) → (q .number ≡ 0 → ⊥) → (m e : List ℕ)
+      → m ≡ ownersPainted (t .edg) (t .facId) (t .startEdge) d → e ≡ front zeros (sides t) m → e ≡ marksJudged t q d
   unfolding ownersPainted
   painted-erased q n m e u v = erased q n _ m e u v
 
-  pub painted-kept : (q : Refusal) → q .number ≡ 0 → q ≡ firstOf (ownersOf t) → (m : List ℕ) → m ≡ ownersPainted (t .edg) (t .facId) (t .startEdge) d → m ≡ marksJudged t q d
+  pub painted-kept : (q : Refusal) → q .number ≡ 0 → q ≡ firstOf (ownersOf t) → (m : List ℕ)
+      → m ≡ ownersPainted (t .edg) (t .facId) (t .startEdge) d → m ≡ marksJudged t q d
   unfolding marksJudged ownerTests startSide startOf
   painted-kept q n e m u =
       let p = passed-all (ownersOf t) (sym (ap (λ (r : Refusal). r .number) e) ∙ n) in
@@ -134,7 +148,8 @@ module _ (t : Tile) (d : List ℕ) where
       (all-painted (t .edg) (t .facId) (t .startEdge) d m (located-passes 30 _ (λ z. omega arith) (p .0)) u)
 
 -- ---- the check: the sizes and the owner space, then 20 to 31
-parts-joined : (t : Tile) (space : ℕ) → tests t space ≡ refusedIf (sizesWrong t) 15 0 ∷ (refusedIf (ltb space (sides t)) 14 (sides t) ∷ laterTests t)
+parts-joined : (t : Tile) (space : ℕ) → tests t space ≡ refusedIf (sizesWrong t) 15 0
+    ∷ (refusedIf (ltb space (sides t)) 14 (sides t) ∷ laterTests t)
 unfolding laterTests edgeTests ringTests ownerTests startMissing startOf startSide emptyStart
 parts-joined t space = refl
 
@@ -152,7 +167,8 @@ later-numbered t =
         (
           located-numbered 20 22 _ (omega arith),
           (
-            lowest-numbered 20 (edgeSideRefusal (t .edg)) (sides t) (λ s. side-numbered s (sides t) (successor (t .edg) s) (successor-sound (t .edg) s)),
+            lowest-numbered 20 (edgeSideRefusal (t .edg)) (sides t)
+                (λ s. side-numbered s (sides t) (successor (t .edg) s) (successor-sound (t .edg) s)),
             (
               located-numbered 20 26 _ (omega arith),
               (

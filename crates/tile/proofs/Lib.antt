@@ -1,3 +1,4 @@
+pub mod JoinedTests
 pub mod TestsInWords
 pub mod InOrder
 pub mod AcceptedExactly
@@ -6,7 +7,6 @@ pub mod StartExactly
 pub mod WalkExactly
 pub mod DemandThree
 pub mod NoSecondAnswer
-pub mod Examples
 pub mod RunsExactly
 pub mod RunLaws
 pub mod OwnerLaws

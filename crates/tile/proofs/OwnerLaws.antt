@@ -1,5 +1,5 @@
 -- What the tests' answers say of the successor as a function on sides.
-use mathlib.Core.Path.{_≡_, refl, sym, ap, _∙_}
+use mathlib.Core.Path.{_≡_, sym, ap, _∙_}
 use mathlib.Core.Bool.{Bool, true, false, cond, _&&_, true≢false}
 use mathlib.Core.List.{List}
 use Prim.Native.Nat.{ℕ, suc, _+_, _*_, _≤_, _<_}
@@ -39,7 +39,8 @@ goes t e k a b =
     (ltb-false 0 (edgeSideRefusal t k .number) (all-passed (edgeSideRefusal t) (sideCount t) (ap (λ (r : Refusal). r .number) e) .fails k a b))
 
 -- exactly one predecessor: no two sides have one successor
-pub apart : (t : Edges) → lowestOf (edgeSideRefusal t) (sideCount t) ≡ fine → firstDoubled (after t) (sideCount t) ≡ 0 → Inj (after t) (sideCount t)
+pub apart : (t : Edges) → lowestOf (edgeSideRefusal t) (sideCount t) ≡ fine → firstDoubled (after t) (sideCount t) ≡ 0
+    → Inj (after t) (sideCount t)
 apart t e d = single (after t) (sideCount t) (goes t e) d
 
 -- ---- the rings' starts
@@ -60,7 +61,8 @@ and-false false b e t = absurd (true≢false (sym t))
 
 module _ (t : Edges) (fi se : List ℕ) where
   -- a start as the code finds it
-  pub start-is : (i a e : ℕ) → e ≡ entry se (i + 1) → a ≡ sideWith (edgeCount t) (t .rightFace) (t .leftFace) (getD fi i 0) e → a ≡ startOf t fi se (suc i)
+  pub start-is : (i a e : ℕ) → e ≡ entry se (i + 1)
+      → a ≡ sideWith (edgeCount t) (t .rightFace) (t .leftFace) (getD fi i 0) e → a ≡ startOf t fi se (suc i)
   unfolding startOf
   start-is i a e p q = q ∙ ap (sideWith (edgeCount t) (t .rightFace) (t .leftFace) (getD fi i 0)) (p ∙ ap (entry se) (add-one i))
 
@@ -105,7 +107,8 @@ module _ (t : Edges) (fi se : List ℕ) (d m m₀ : List ℕ) (p : m₀ ≡ fron
   stopped-last q e = rw (← e) (over-front (ownerAt (after t) (sideCount t) (startOf t fi se) (length fi)) zeros (sideCount t) d m₀ m p q)
 
 -- the marks after the painting, where no row was taken
-pub all-painted : (t : Edges) (fi se d m : List ℕ) → firstTaken (after t) (sideCount t) (startOf t fi se) (length fi) ≡ 0 → m ≡ ownersPainted t fi se d
+pub all-painted : (t : Edges) (fi se d m : List ℕ)
+    → firstTaken (after t) (sideCount t) (startOf t fi se) (length fi) ≡ 0 → m ≡ ownersPainted t fi se d
     → m ≡ front (ownerAt (after t) (sideCount t) (startOf t fi se) (length fi)) (sideCount t) d
 unfolding ownersPainted
 all-painted t fi se d m z e = rw z at e
@@ -115,7 +118,8 @@ fronted g n d m q = q ∙ sym (front-over g g n d) ∙ ap (front g n) (sym q)
 
 -- ---- the predecessors counted: the marks where a side has no successor, and where all have one
 module _ (t : Edges) (d : List ℕ) (q : Refusal) where
-  pub tally-cleared : (q .number ≡ 0 → ⊥) → (g : ℕ → ℕ) (m e : List ℕ) → m ≡ front g (sideCount t) d → e ≡ front zeros (sideCount t) m → e ≡ tallied t q d
+  pub tally-cleared : (q .number ≡ 0 → ⊥) → (g : ℕ → ℕ) (m e : List ℕ) → m ≡ front g (sideCount t) d
+      → e ≡ front zeros (sideCount t) m → e ≡ tallied t q d
   unfolding tallied
   tally-cleared z g m e u v = rw (ne-eqb (q .number) 0 z) (over-front zeros g (sideCount t) d m e u v)
 

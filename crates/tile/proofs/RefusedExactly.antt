@@ -18,7 +18,8 @@ use Rattle.tile.proofs.InOrder.{judged, none-refused, one-refusal}
 -- the answer is a refusal exactly where a number is refused
 pub refused-number : (q r : Refusal) → answered q ≡ Refused r → q ≡ r
 refused-number q r e =
-    bool-cases (eqb (q .number) 0) (λ c. let w = rw c at e in let z : _≡_ {A = ℕ} 0 1 = cc in absurd (omega arith)) (λ c. let w = rw c at e in (cc))
+    bool-cases (eqb (q .number) 0) (λ c. let w = rw c at e in let z : _≡_ {A = ℕ} 0 1 = cc in absurd (omega arith))
+    (λ c. let w = rw c at e in (cc))
 
 pub number-refused : (q : Refusal) → (q .number ≡ 0 → ⊥) → answered q ≡ Refused q
 number-refused q h = rw (ne-eqb (q .number) 0 h)

@@ -30,7 +30,10 @@ module _ (ringPtr facId : List ℕ) where
   pub begins-elsewhere : (i v w : ℕ) → v ≡ entry facId i → (v ≡ getD facId i 0 → ⊥) → w ≡ entry ringPtr (getD facId i 0) → (w ≡ i + 1 → ⊥)
       → getD facId i 0 ≡ cond (beginsElsewhere ringPtr facId (suc i)) (entry facId (suc i)) 0
   begins-elsewhere i v w e h f k =
-      rw (ne-eqb (entry facId i) (getD facId i 0) (λ z. h (e ∙ z)), ne-eqb (entry ringPtr (getD facId i 0)) (suc i) (λ z. k (f ∙ z ∙ sym (add-one i))))
+      rw (
+        ne-eqb (entry facId i) (getD facId i 0) (λ z. h (e ∙ z)),
+        ne-eqb (entry ringPtr (getD facId i 0)) (suc i) (λ z. k (f ∙ z ∙ sym (add-one i))),
+      )
 
   -- the two answers at face i + 1
   pub points-away : (i v : ℕ) → v ≡ entry facId (getD ringPtr i 0) → (v ≡ i + 1 → ⊥) → pointsAway ringPtr facId (suc i) ≡ true
@@ -40,7 +43,8 @@ module _ (ringPtr facId : List ℕ) where
   points-home i v e h = rw (eq-eqb (entry facId (getD ringPtr i 0)) (suc i) (sym e ∙ h ∙ add-one i))
 
   faces-in : lowest (entryOutside (length ringPtr) facId) (length facId) ≡ 0 → Into (entry facId) (length facId) (length ringPtr)
-  faces-in e k a b = not-outside (length ringPtr) (entry facId k) (lowest-zero (entryOutside (length ringPtr) facId) (length facId) e .fails k a b)
+  faces-in e k a b = not-outside (length ringPtr) (entry facId k)
+      (lowest-zero (entryOutside (length ringPtr) facId) (length facId) e .fails k a b)
 
   -- THE LOWEST FACE with a wrong run: the lower of the two that one pass over the rings and one over the faces find
   pub runs-judged : lowest (entryOutside (length ringPtr) facId) (length facId) ≡ 0
@@ -49,5 +53,6 @@ module _ (ringPtr facId : List ℕ) where
   runs-judged e =
       ap (lesser (lowest (pointsAway ringPtr facId) (length ringPtr)))
       (least-is (beginsElsewhere ringPtr facId) (entry facId) (length facId) (length ringPtr) (faces-in e))
-      ∙ lowest-either (pointsAway ringPtr facId) (λ f. ltb 0 (lowest (λ r. eqb (entry facId r) f && beginsElsewhere ringPtr facId r) (length facId))) (length ringPtr)
+      ∙ lowest-either (pointsAway ringPtr facId)
+      (λ f. ltb 0 (lowest (λ r. eqb (entry facId r) f && beginsElsewhere ringPtr facId r) (length facId))) (length ringPtr)
       ∙ lowest-ext (runNotAtPointer ringPtr facId) (runBroken ringPtr facId) (length ringPtr) (λ f a b. not-at-pointer-broken ringPtr facId f a)

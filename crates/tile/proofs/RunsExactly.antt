@@ -31,7 +31,8 @@ use Rattle.tile.specs.Facts.{OneRunFrom}
 -- a row that is not 0 is a row of the list
 entry-in : (l : List ℕ) (r : ℕ) → 0 < entry l r → In (length l) r
 entry-in l zero h = absurd (omega arith)
-entry-in l (suc r) h = by-cases (decLt r (length l)) (λ c. (omega arith, omega arith)) (λ c. absurd (omega (arith, List·getD-eq-default l 0 {n = r} (omega arith))))
+entry-in l (suc r) h = by-cases (decLt r (length l)) (λ c. (omega arith, omega arith))
+    (λ c. absurd (omega (arith, List·getD-eq-default l 0 {n = r} (omega arith))))
 
 -- ---- a sum in two parts
 sum-split : (g : ℕ → ℕ) (a n : ℕ) → sum g (a + n) ≡ sum g a + sum (λ j. g (a + j)) n
@@ -58,7 +59,8 @@ module _ (l : List ℕ) (f p : ℕ) where
     -- all of the k rows hold it
     module _ (h : (r : ℕ) → p ≤ r → r < p + k → entry l r ≡ f) where
       all-count : sum (λ j. holds (pred p + j)) k ≡ k
-      all-count = sum-ext (λ j. holds (pred p + j)) (λ j. 1) k (λ j u v. counts (pred p + j) (h (pred p + j) (omega arith) (omega arith))) ∙ sum-ones k
+      all-count = sum-ext (λ j. holds (pred p + j)) (λ j. 1) k
+          (λ j u v. counts (pred p + j) (h (pred p + j) (omega arith) (omega arith))) ∙ sum-ones k
 
       -- there are k rows that hold it: none of them is another
       no-other : ringRows l f ≡ k → (r : ℕ) → In (length l) r → entry l r ≡ f → (p ≤ r) × (r < p + k)
@@ -76,7 +78,8 @@ module _ (l : List ℕ) (f p : ℕ) where
       -- no other row holds it: there are k
       no-more : ((r : ℕ) → In (length l) r → entry l r ≡ f → (p ≤ r) × (r < p + k)) → ringRows l f ≡ k
       no-more o =
-          let before = sum-none (λ j. eqb f (entry l j)) (pred p) (λ j u v. ne-eqb f (entry l j) (λ e. omega (arith, o j (u, omega arith) (sym e)))) in
+          let before = sum-none (λ j. eqb f (entry l j)) (pred p)
+          (λ j u v. ne-eqb f (entry l j) (λ e. omega (arith, o j (u, omega arith) (sym e)))) in
           let after =
           sum-none (λ j. eqb f (entry l (pred p + k + j))) (length l - (pred p + k))
           (λ j u v. ne-eqb f (entry l (pred p + k + j)) (λ e. omega (arith, o (pred p + k + j) (omega arith, omega arith) (sym e)))) in
@@ -116,7 +119,8 @@ module _ (l : List ℕ) (f p : ℕ) (pos : 0 < f) where
   Steady r = entry l r ≡ f → (entry l (pred r) ≡ f) ⊎ (p ≡ r)
 
   -- from a row that holds f down to row q, while none above q is p
-  down : Each (length l) Steady → (r : ℕ) → r ≤ length l → entry l r ≡ f → (q : ℕ) → q ≤ r → ((i : ℕ) → q < i → i ≤ r → p ≡ i → ⊥) → entry l q ≡ f
+  down : Each (length l) Steady → (r : ℕ) → r ≤ length l → entry l r ≡ f → (q : ℕ) → q ≤ r
+      → ((i : ℕ) → q < i → i ≤ r → p ≡ i → ⊥) → entry l q ≡ f
   down st zero a e q b none = let z : q ≡ 0 = omega arith in rw z e
   down st (suc r) a e q b none =
       by-cases (decLe q r)
@@ -178,7 +182,8 @@ module _ (ringPtr facId : List ℕ) (f : ℕ) (pos : 0 < f) where
       let p = entry ringPtr f in
       let w =
       or-false _ _ (not-unequal (entry facId p) f)
-      (none-found (Steady facId f p pos) (length facId) (λ r. eqb (entry facId r) f && beginsElsewhere ringPtr facId r) (λ r j. steady-exactly r)) in (
+      (none-found (Steady facId f p pos) (length facId) (λ r. eqb (entry facId r) f && beginsElsewhere ringPtr facId r)
+      (λ r j. steady-exactly r)) in (
         λ e.
             let h = w .0 e in
             let b = begins facId f p pos (h .0) (h .1) in

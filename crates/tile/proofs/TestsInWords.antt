@@ -24,7 +24,8 @@ use Rattle.side.specs.Edges.{outside, edgeOf, face}
 use Rattle.side.specs.Successor.{successor, after, LinkIn, Fault}
 use Rattle.side.proofs.SuccessorExactly.{not-outside, face-of-right, face-of-left, successor-follows, follows-successor, wrong-fault}
 use Rattle.side.proofs.SuccessorExactly.{wrong-number, successor-side, side-after}
-use Rattle.tile.specs.Columns.{Tile, E, F, R, N, sides, mostRows, startSide, emptyStart}
+use Rattle.limits.specs.Limits.{mostRows}
+use Rattle.tile.specs.Columns.{Tile, E, F, R, N, sides, startSide, emptyStart}
 use Rattle.tile.specs.Check.{slicesUnequal, tooManyRows, sizesWrong, rowOutside, nodeOutside, faceOutside, linkOutside}
 use Rattle.tile.specs.Check.{refusedSide, sideRefusal, firstEdgeWrong, ringFaceOutside, runWrong, startWrong}
 use Rattle.tile.proofs.RunsExactly.{broken-exactly}
@@ -49,7 +50,8 @@ module _ (t : Tile) where
   pub sizes-exactly : (sizesWrong t ≡ false) ↔ Sizes t
   unfolding sizesWrong
   sizes-exactly =
-      let w = or-false (slicesUnequal t) _ slices-exactly (or-false (tooManyRows t) _ rows-exactly (or-false _ _ (nonzero (F t)) (nonzero (R t)))) in (
+      let w = or-false (slicesUnequal t) _ slices-exactly
+      (or-false (tooManyRows t) _ rows-exactly (or-false _ _ (nonzero (F t)) (nonzero (R t)))) in (
         λ e.
             let h = w .0 e in
             let l = h .0 in
@@ -75,24 +77,33 @@ module _ (t : Tile) where
       )
 
   pub judged-sizes : Judged (refusedIf (sizesWrong t) 15 0) (Sizes t) (λ n p. (n ≡ 15) × (p ≡ 0) × (Sizes t → ⊥))
-  judged-sizes = judged-once (sizesWrong t) 15 0 (Sizes t) (Sizes t → ⊥) (λ e. omega arith) (sizes-exactly .0) (λ e s. true≢false (sym e ∙ sizes-exactly .1 s))
+  judged-sizes = judged-once (sizesWrong t) 15 0 (Sizes t) (Sizes t → ⊥) (λ e. omega arith) (sizes-exactly .0)
+      (λ e s. true≢false (sym e ∙ sizes-exactly .1 s))
 
   -- ---- 14
-  pub judged-space : (space : ℕ) → Judged (refusedIf (ltb space (sides t)) 14 (sides t)) (sides t ≤ space) (λ n p. (n ≡ 14) × (p ≡ sides t) × (space < sides t))
-  judged-space space = judged-once (ltb space (sides t)) 14 (sides t) (sides t ≤ space) (space < sides t) (λ e. omega arith) (ltb-false space (sides t)) (ltb-true space (sides t))
+  pub judged-space : (space : ℕ) → Judged (refusedIf (ltb space (sides t)) 14 (sides t)) (sides t ≤ space)
+      (λ n p. (n ≡ 14) × (p ≡ sides t) × (space < sides t))
+  judged-space space = judged-once (ltb space (sides t)) 14 (sides t) (sides t ≤ space) (space < sides t)
+      (λ e. omega arith) (ltb-false space (sides t)) (ltb-true space (sides t))
 
   -- ---- 20, 21, 22: both numbers of a row in 1..most
   row-exactly : (most : ℕ) (a b : List ℕ) (e : ℕ) → (rowOutside most a b e ≡ false) ↔ (In most (entry a e) × In most (entry b e))
   row-exactly most a b e = or-false _ _ (not-outside most (entry a e)) (not-outside most (entry b e))
 
-  pub judged-nodes : Judged (located 20 (lowest (nodeOutside t) (E t))) (Each (E t) (NodesIn t)) (λ n p. (n ≡ 20) × LowestFailing (E t) (NodesIn t) p)
-  judged-nodes = judged-lowest (NodesIn t) (E t) 20 (λ e. omega arith) (nodeOutside t) (λ k i. row-exactly (N t) (t .edg .startNode) (t .edg .endNode) k)
+  pub judged-nodes : Judged (located 20 (lowest (nodeOutside t) (E t))) (Each (E t) (NodesIn t))
+      (λ n p. (n ≡ 20) × LowestFailing (E t) (NodesIn t) p)
+  judged-nodes = judged-lowest (NodesIn t) (E t) 20 (λ e. omega arith) (nodeOutside t)
+      (λ k i. row-exactly (N t) (t .edg .startNode) (t .edg .endNode) k)
 
-  pub judged-faces : Judged (located 21 (lowest (faceOutside t) (E t))) (Each (E t) (FacesIn t)) (λ n p. (n ≡ 21) × LowestFailing (E t) (FacesIn t) p)
-  judged-faces = judged-lowest (FacesIn t) (E t) 21 (λ e. omega arith) (faceOutside t) (λ k i. row-exactly (F t) (t .edg .rightFace) (t .edg .leftFace) k)
+  pub judged-faces : Judged (located 21 (lowest (faceOutside t) (E t))) (Each (E t) (FacesIn t))
+      (λ n p. (n ≡ 21) × LowestFailing (E t) (FacesIn t) p)
+  judged-faces = judged-lowest (FacesIn t) (E t) 21 (λ e. omega arith) (faceOutside t)
+      (λ k i. row-exactly (F t) (t .edg .rightFace) (t .edg .leftFace) k)
 
-  pub judged-links : Judged (located 22 (lowest (linkOutside t) (E t))) (Each (E t) (LinksIn t)) (λ n p. (n ≡ 22) × LowestFailing (E t) (LinksIn t) p)
-  judged-links = judged-lowest (LinksIn t) (E t) 22 (λ e. omega arith) (linkOutside t) (λ k i. row-exactly (E t) (t .edg .rightEdge) (t .edg .leftEdge) k)
+  pub judged-links : Judged (located 22 (lowest (linkOutside t) (E t))) (Each (E t) (LinksIn t))
+      (λ n p. (n ≡ 22) × LowestFailing (E t) (LinksIn t) p)
+  judged-links = judged-lowest (LinksIn t) (E t) 22 (λ e. omega arith) (linkOutside t)
+      (λ k i. row-exactly (E t) (t .edg .rightEdge) (t .edg .leftEdge) k)
 
   -- ---- 23, 24, 25
   -- the links of all rows are the links of all sides
@@ -105,23 +116,33 @@ module _ (t : Tile) where
   succeeded s u e = (u, successor-follows (t .edg) s u e)
 
   -- the refusal of one side
-  side-view : (s : ℕ) (c : Successor) → successor (t .edg) s ≡ c → ((refusedSide s c .number ≡ 0) × Succeeded t s) ⊎ ((n : ℕ) × (successor (t .edg) s ≡ Wrong n) × (refusedSide s c ≡ refusal n s))
+  side-view : (s : ℕ) (c : Successor) → successor (t .edg) s ≡ c
+      → ((refusedSide s c .number ≡ 0) × Succeeded t s) ⊎ ((n : ℕ) × (successor (t .edg) s ≡ Wrong n) × (refusedSide s c ≡ refusal n s))
   side-view s (Side u) e = inl (refl, succeeded s u e)
   side-view s (Wrong n) e = inr (n, e, refl)
 
-  judged-side : (s : ℕ) → LinkIn (t .edg) s → Judged (sideRefusal t s) (Succeeded t s) (λ n p. (p ≡ s) × Fault (t .edg) s n × (Succeeded t s → ⊥))
+  judged-side : (s : ℕ) → LinkIn (t .edg) s
+      → Judged (sideRefusal t s) (Succeeded t s) (λ n p. (p ≡ s) × Fault (t .edg) s n × (Succeeded t s → ⊥))
   judged-side s l =
       ⊎-elim inl
       (λ h.
       rw (h .2)
       (inr (
         λ z. omega (arith, wrong-number (t .edg) s (h .0) (h .1)),
-        (refl, wrong-fault (t .edg) s (h .0) l (h .1), λ w. let z : _≡_ {A = ℕ} 0 1 = cc (follows-successor (t .edg) s (w .0) (w .1), h .1) in omega arith),
+        (
+          refl,
+          wrong-fault (t .edg) s (h .0) l (h .1),
+          λ w.
+              let z : _≡_ {A = ℕ} 0 1 = cc (follows-successor (t .edg) s (w .0) (w .1), h .1) in omega arith,
+        ),
       )))
       (side-view s (successor (t .edg) s) refl)
 
-  pub judged-successors : Each (E t) (LinksIn t) → Judged (lowestOf (sideRefusal t) (sides t)) (Each (sides t) (Succeeded t)) (λ n p. Fault (t .edg) p n × LowestFailing (sides t) (Succeeded t) p)
-  judged-successors l = judged-lowest-of (Succeeded t) (sides t) (λ s n. Fault (t .edg) s n) (sideRefusal t) (λ s i. judged-side s (link-in l s i))
+  pub judged-successors : Each (E t) (LinksIn t)
+      → Judged (lowestOf (sideRefusal t) (sides t)) (Each (sides t) (Succeeded t))
+      (λ n p. Fault (t .edg) p n × LowestFailing (sides t) (Succeeded t) p)
+  judged-successors l = judged-lowest-of (Succeeded t) (sides t) (λ s n. Fault (t .edg) s n) (sideRefusal t)
+      (λ s i. judged-side s (link-in l s i))
 
   -- ---- 26: where every side has a successor, the successor is a function on 1..2E
   pub goes : Each (sides t) (Succeeded t) → Into (after (t .edg)) (sides t) (sides t)
@@ -152,24 +173,30 @@ module _ (t : Tile) where
   not-two s h p q a b u v = h .only p a u ∙ sym (h .only q b v)
 
   pub judged-predecessors : Each (sides t) (Succeeded t)
-      → Judged (located 26 (firstDoubled (after (t .edg)) (sides t))) (Each (sides t) (OnePredecessor t)) (λ n p. (n ≡ 26) × LowestFailing (sides t) (NoTwoPredecessors t) p)
+      → Judged (located 26 (firstDoubled (after (t .edg)) (sides t))) (Each (sides t) (OnePredecessor t))
+      (λ n p. (n ≡ 26) × LowestFailing (sides t) (NoTwoPredecessors t) p)
   judged-predecessors w =
       ⊎-elim (λ h. inl (h .0, one-predecessor w (h .1))) inr
-      (judged-lowest (NoTwoPredecessors t) (sides t) 26 (λ e. omega arith) (λ s. ltb 1 (hits (after (t .edg)) (sides t) s)) (λ s i. at-most-one s))
+      (judged-lowest (NoTwoPredecessors t) (sides t) 26 (λ e. omega arith)
+      (λ s. ltb 1 (hits (after (t .edg)) (sides t) s)) (λ s i. at-most-one s))
 
   -- ---- 27
   first-edge-exactly : (n : ℕ) → (firstEdgeWrong t n ≡ false) ↔ FirstEdgeTouches t n
   first-edge-exactly n =
       let e = entry (t .firstEdge) n in
-      let w = or-false _ _ (not-outside (E t) e) (and-false _ _ (not-unequal (entry (t .edg .startNode) e) n) (not-unequal (entry (t .edg .endNode) e) n)) in
+      let w = or-false _ _ (not-outside (E t) e)
+      (and-false _ _ (not-unequal (entry (t .edg .startNode) e) n) (not-unequal (entry (t .edg .endNode) e) n)) in
       (λ e. let h = w .0 e in record { within = h .0; touches = h .1 }, λ h. w .1 (h .within, h .touches))
 
-  pub judged-first-edges : Judged (located 27 (lowest (firstEdgeWrong t) (N t))) (Each (N t) (FirstEdgeTouches t)) (λ n p. (n ≡ 27) × LowestFailing (N t) (FirstEdgeTouches t) p)
+  pub judged-first-edges : Judged (located 27 (lowest (firstEdgeWrong t) (N t))) (Each (N t) (FirstEdgeTouches t))
+      (λ n p. (n ≡ 27) × LowestFailing (N t) (FirstEdgeTouches t) p)
   judged-first-edges = judged-lowest (FirstEdgeTouches t) (N t) 27 (λ e. omega arith) (firstEdgeWrong t) (λ n i. first-edge-exactly n)
 
   -- ---- 28
-  pub judged-ring-faces : Judged (located 28 (lowest (ringFaceOutside t) (R t))) (Each (R t) (RingFaceIn t)) (λ n p. (n ≡ 28) × LowestFailing (R t) (RingFaceIn t) p)
-  judged-ring-faces = judged-lowest (RingFaceIn t) (R t) 28 (λ e. omega arith) (ringFaceOutside t) (λ r i. not-outside (F t) (entry (t .facId) r))
+  pub judged-ring-faces : Judged (located 28 (lowest (ringFaceOutside t) (R t))) (Each (R t) (RingFaceIn t))
+      (λ n p. (n ≡ 28) × LowestFailing (R t) (RingFaceIn t) p)
+  judged-ring-faces = judged-lowest (RingFaceIn t) (R t) 28 (λ e. omega arith) (ringFaceOutside t)
+      (λ r i. not-outside (F t) (entry (t .facId) r))
 
   run-exactly : (f : ℕ) → In (F t) f → (runWrong t f ≡ false) ↔ OneRun t f
   run-exactly f i = broken-exactly (t .facId) f (entry (t .ringPtr) f) (i .0)
@@ -233,7 +260,8 @@ module _ (t : Tile) where
         λ h. let q = placed r h in ne-eqb (startSide t r) 0 (λ e. omega (arith, q .pos)),
       )
 
-  pub judged-starts : Judged (located 29 (lowest (startWrong t) (R t))) (Each (R t) (StartRight t)) (λ n p. (n ≡ 29) × LowestFailing (R t) (StartRight t) p)
+  pub judged-starts : Judged (located 29 (lowest (startWrong t) (R t))) (Each (R t) (StartRight t))
+      (λ n p. (n ≡ 29) × LowestFailing (R t) (StartRight t) p)
   judged-starts = judged-lowest (StartRight t) (R t) 29 (λ e. omega arith) (startWrong t) (λ r i. start-exactly r)
 
   -- where there is no empty ring, every start is a side
@@ -251,23 +279,30 @@ module _ (t : Tile) where
       λ k. meets-of (after (t .edg)) (sides t) (goes w) (single w o) (startSide t q) (h .pos) (h .within) (k .0) s (k .1),
     )
 
-    pub named-exactly : (r : ℕ) → In (R t) r → (ltb 0 (owner (after (t .edg)) (sides t) (startSide t) (pred r) (startSide t r)) ≡ false) ↔ NotNamedBefore t r
+    pub named-exactly : (r : ℕ) → In (R t) r
+        → (ltb 0 (owner (after (t .edg)) (sides t) (startSide t) (pred r) (startSide t r)) ≡ false) ↔ NotNamedBefore t r
     named-exactly r i =
         let w =
         none-found (λ q. Reaches t q (startSide t r) → ⊥) (pred r) (λ q. meets (after (t .edg)) (sides t) (startSide t q) (startSide t r))
         (λ q j. refuted _ (meets-exactly q (startSide t r) (start-placed st q (j .0, omega arith) (λ z. omega (arith, z .one-ring))))) in
         (λ e q a b. w .0 e q (a, omega arith), λ h. w .1 (λ q j. h q (j .0) (omega arith)))
 
-    pub judged-named : Judged (located 30 (firstTaken (after (t .edg)) (sides t) (startSide t) (R t))) (Each (R t) (NotNamedBefore t)) (λ n p. (n ≡ 30) × LowestFailing (R t) (NotNamedBefore t) p)
-    judged-named = judged-lowest (NotNamedBefore t) (R t) 30 (λ e. omega arith) (λ r. ltb 0 (owner (after (t .edg)) (sides t) (startSide t) (pred r) (startSide t r))) named-exactly
+    pub judged-named : Judged (located 30 (firstTaken (after (t .edg)) (sides t) (startSide t) (R t)))
+        (Each (R t) (NotNamedBefore t)) (λ n p. (n ≡ 30) × LowestFailing (R t) (NotNamedBefore t) p)
+    judged-named = judged-lowest (NotNamedBefore t) (R t) 30 (λ e. omega arith)
+        (λ r. ltb 0 (owner (after (t .edg)) (sides t) (startSide t) (pred r) (startSide t r))) named-exactly
 
     pub covered-exactly : (s : ℕ) → In (sides t) s → (eqb (owner (after (t .edg)) (sides t) (startSide t) (R t) s) 0 ≡ false) ↔ OnARing t s
     covered-exactly s i =
         let on : ℕ → Bool = λ q. meets (after (t .edg)) (sides t) (startSide t q) s in
-        let exact : (q : ℕ) → In (R t) q → (on q ≡ true) ↔ Reaches t q s = λ q j. meets-exactly q s (start-placed st q j (λ z. omega (arith, z .no-edges))) in (
-          λ e. let h = lowest-pos on (R t) (nonzero _ .0 e) in (lowest on (R t), (h .pos, h .within), exact (lowest on (R t)) (h .pos, h .within) .0 (h .passes)),
+        let exact : (q : ℕ) → In (R t) q → (on q ≡ true) ↔ Reaches t q s = λ q j.
+        meets-exactly q s (start-placed st q j (λ z. omega (arith, z .no-edges))) in (
+          λ e. let h = lowest-pos on (R t) (nonzero _ .0 e) in
+              (lowest on (R t), (h .pos, h .within), exact (lowest on (R t)) (h .pos, h .within) .0 (h .passes)),
           λ h. nonzero _ .1 (lowest-some on (R t) (h .0) (h .1 .0) (h .1 .1) (exact (h .0) (h .1) .1 (h .2))),
         )
 
-    pub judged-covered : Judged (located 31 (firstUnmet (after (t .edg)) (sides t) (startSide t) (R t))) (Each (sides t) (OnARing t)) (λ n p. (n ≡ 31) × LowestFailing (sides t) (OnARing t) p)
-    judged-covered = judged-lowest (OnARing t) (sides t) 31 (λ e. omega arith) (λ s. eqb (owner (after (t .edg)) (sides t) (startSide t) (R t) s) 0) covered-exactly
+    pub judged-covered : Judged (located 31 (firstUnmet (after (t .edg)) (sides t) (startSide t) (R t)))
+        (Each (sides t) (OnARing t)) (λ n p. (n ≡ 31) × LowestFailing (sides t) (OnARing t) p)
+    judged-covered = judged-lowest (OnARing t) (sides t) 31 (λ e. omega arith)
+        (λ s. eqb (owner (after (t .edg)) (sides t) (startSide t) (R t) s) 0) covered-exactly

@@ -35,12 +35,10 @@ use Rattle.side.proofs.SuccessorExactly.{after-side, side-after, after-zero, fa
 use Rattle.tile.specs.Columns.{Tile, R, sides, startSide}
 use Rattle.tile.specs.Check.{sizesWrong, startWrong}
 use Rattle.tile.specs.Facts.{Sizes, EmptyRing, StartsOnSide}
-use Rattle.tile.specs.Walk.{stuckAt, movesFrom, moves, walked, walkOf, sideAfter, sidesWritten}
+use Rattle.tile.specs.Walk.{Moves, Back, Open, Stuck, stuckAt, movesFrom, moves, walked, walkOf, sideAfter, sidesWritten}
 use Rattle.tile.specs.WalkWords.{Path, FirstReturn, Reached, NoReturn, Begins}
 use Rattle.tile.specs.WalkWords.{WalkRefused, sizes-wrong, no-such-ring, start-wrong, link-outside, no-successor, does-not-close, short-output}
 use Rattle.tile.specs.WalkWords.{WalkAnswered, empty-ring, returned, Writes}
-use Rattle.tile.specs.declared.Moves.{Moves}
-use Rattle.tile.specs.declared.Moves.the-variants.{Back, Open, Stuck}
 use Rattle.tile.specs.declared.Walked.{Walked}
 use Rattle.tile.specs.declared.Walked.the-variants.{Steps, Refused}
 use Rattle.tile.proofs.TestsInWords.{sizes-exactly, start-side, placed, start-exactly}
@@ -106,7 +104,8 @@ module _ (t : Edges) (a : ℕ) where
   what-moves-say : 0 < sideCount t → MovesSay t a (moves t a)
   unfolding moves
   what-moves-say some =
-      moves-say some (sideCount t) 0 (omega arith) (record { starts = refl; moves = λ i l. absurd (omega arith); not-yet = λ i u l. absurd (omega arith) })
+      moves-say some (sideCount t) 0 (omega arith)
+      (record { starts = refl; moves = λ i l. absurd (omega arith); not-yet = λ i u l. absurd (omega arith) })
       (λ i u l. absurd (omega arith))
 
 -- ---- along a path the counting goes on, and its end decides
@@ -120,7 +119,8 @@ module _ (t : Edges) (a : ℕ) where
   goes-along k path p (suc i) l m o =
       rw add-one at
       (moves-on t a (sideCount t) (path i) i (moves t a) (goes-along k path p i (omega arith) (omega arith) (λ j u v. o j u (omega arith)))
-      (path (suc i)) (omega arith) (follows-successor t (path i) (path (suc i)) (p .moves i (omega arith))) (o (suc i) (omega arith) (omega arith)))
+      (path (suc i)) (omega arith) (follows-successor t (path i) (path (suc i)) (p .moves i (omega arith)))
+      (o (suc i) (omega arith) (omega arith)))
 
   pub counts-the-return : (k : ℕ) → FirstReturn t a k → moves t a ≡ Back k
   counts-the-return zero h = absurd (omega (arith, h .some))
@@ -139,7 +139,8 @@ module _ (t : Edges) (a : ℕ) where
       let n = sideCount t in
       sym
       (stays-open t a n (h .path n) n (moves t a)
-      (goes-along n (h .path) p n (omega arith) (omega arith) (λ j u v. by-cases (ℕ-discrete j n) (λ e. rw e (h .not-back)) (λ e. p .not-yet j u (omega arith))))
+      (goes-along n (h .path) p n (omega arith) (omega arith)
+      (λ j u v. by-cases (ℕ-discrete j n) (λ e. rw e (h .not-back)) (λ e. p .not-yet j u (omega arith))))
       (omega arith))
 
   gets-stuck : (k s n : ℕ) → Reached t a k s → successor t s ≡ Wrong n → moves t a ≡ Stuck (stuckAt n s)
@@ -148,7 +149,8 @@ module _ (t : Edges) (a : ℕ) where
       let l = h .fewer in
       let along =
       goes-along k (h .path) p k (omega arith) (omega arith)
-      (λ j u v. by-cases (ℕ-discrete j k) (λ z x. h .not-back (omega arith) (sym (h .there) ∙ ap (h .path) (sym z) ∙ x)) (λ z. p .not-yet j u (omega arith))) in
+      (λ j u v. by-cases (ℕ-discrete j k) (λ z x. h .not-back (omega arith) (sym (h .there) ∙ ap (h .path) (sym z) ∙ x))
+      (λ z. p .not-yet j u (omega arith))) in
       sym (cannot-move t a (sideCount t) s k (moves t a) (rw (h .there) at along) n (stuckAt n s) l e refl)
 
   -- THERE IS ONE FIRST RETURN at most
@@ -159,7 +161,8 @@ module _ (t : Edges) (a : ℕ) where
   pub along : (k : ℕ) (path : ℕ → ℕ) → Path t a k path → (i : ℕ) → i ≤ k → way t a i ≡ path i
   along k path p zero l = sym (p .starts)
   along k path p (suc i) l =
-      ap (after t) (along k path p i (omega arith)) ∙ side-after t (path i) (path (suc i)) (follows-successor t (path i) (path (suc i)) (p .moves i (omega arith)))
+      ap (after t) (along k path p i (omega arith))
+      ∙ side-after t (path i) (path (suc i)) (follows-successor t (path i) (path (suc i)) (p .moves i (omega arith)))
 
   -- where that function has come to 0 it stays
   stays-nowhere : (i j : ℕ) → way t a i ≡ 0 → way t a (j + i) ≡ 0
@@ -213,7 +216,12 @@ module _ (t : Tile) (r : ℕ) where
       let s = start-side-of t r a (b .start) in
       let q = placed t r (on-side a b) in
       let some : startSide t r ≡ 0 → ⊥ = λ z. omega (arith, q .pos) in
-      rw (sizes-exactly t .1 (b .sizes), not-outside (R t) r .1 (b .ring), start-exactly t r .1 (inr (on-side a b)), ne-eqb (startSide t r) 0 some)
+      rw (
+        sizes-exactly t .1 (b .sizes),
+        not-outside (R t) r .1 (b .ring),
+        start-exactly t r .1 (inr (on-side a b)),
+        ne-eqb (startSide t r) 0 some,
+      )
       (ap (λ (x : ℕ). walked r space (moves (t .edg) x)) s)
 
   -- each answer in words

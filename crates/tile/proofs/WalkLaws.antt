@@ -7,21 +7,19 @@ use native.Mathlib.Numerals.{add-one}
 use native.Mathlib.Omega.{arith}
 use borrow.Author.Tests.{eq-eqb, ne-eqb, lt-ltb, le-ltb}
 use Rattle.laws.specs.Orbit.{entry}
+use Rattle.laws.proofs.TestLaws.{clash}
 use Rattle.side.specs.Edges.{Edges, outside}
 use Rattle.side.specs.Successor.{successor, after}
-use Rattle.side.specs.declared.Successor.{Successor}
 use Rattle.side.specs.declared.Successor.the-variants.{Side, Wrong}
 use Rattle.refusal.specs.declared.Refusal.{Refusal}
 use Rattle.refusal.specs.Order.{refusal}
 use Rattle.tile.proofs.SuccessorLaws.{nowhere-to-go}
 use Rattle.tile.specs.Columns.{Tile, E, F, R, sideWith, startSide, emptyStart}
-use Rattle.tile.specs.Check.{sizesWrong, startWrong}
-use Rattle.tile.specs.Serving.Stages.{startMissing, pathWritten}
-use Rattle.tile.specs.Walk.{stuckAt, onMove, movesFrom, moves, walked, walkOf, sidesWritten}
+use Rattle.tile.specs.Check.{refusedSide, edgeSideRefusal, sizesWrong, startWrong}
+use Rattle.tile.specs.Serving.Stages.{startMissing, inFull, pathWritten}
+use Rattle.tile.specs.Walk.{Moves, Back, Open, Stuck, stuckAt, movesFrom, moves, walked, walkOf, sidesWritten}
 use Rattle.tile.specs.declared.Walked.{Walked}
 use Rattle.tile.specs.declared.Walked.the-variants.{Steps, Refused}
-use Rattle.tile.specs.declared.Moves.{Moves}
-use Rattle.tile.specs.declared.Moves.the-variants.{Back, Open, Stuck}
 
 module _ (t : Edges) (a n s k : ℕ) (x : Moves) (e : x ≡ movesFrom t a (n - k) s k) where
   opened : k < n → x ≡ movesFrom t a (suc (n - (k + 1))) s k
@@ -30,10 +28,10 @@ module _ (t : Edges) (a n s k : ℕ) (x : Moves) (e : x ≡ movesFrom t a (n - k
   pub cannot-move : (w : ℕ) (q : Refusal) → k < n → successor t s ≡ Wrong w → q ≡ stuckAt w s → Stuck q ≡ x
   cannot-move w q h f g = ap Stuck g ∙ sym (rw f at (opened h))
 
-  pub stops-here : (u : ℕ) (r : Moves) → k < n → u ≡ after t s → u ≡ 0 → r ≡ onMove s (successor t s) (λ v. Open) → r ≡ x
-  stops-here u r h f z g =
-      let w = nowhere-to-go t s u f z in
-      g ∙ ap (λ (c : Successor). onMove s c (λ v. Open)) (w .1) ∙ cannot-move (w .0) (stuckAt (w .0) s) h (w .1) refl
+  pub stops-here : (u : ℕ) (q w : Refusal) → k < n → u ≡ after t s → u ≡ 0 → q ≡ edgeSideRefusal t s → w ≡ stuckAt (q .number) s → Stuck w ≡ x
+  stops-here u q w h f z g v =
+      let o = nowhere-to-go t s u f z in
+      cannot-move (o .0) w h (o .1) (v ∙ ap (λ (p : Refusal). stuckAt (p .number) s) (g ∙ ap (refusedSide s) (o .1)))
 
   pub back-home : (u : ℕ) → k < n → successor t s ≡ Side u → u ≡ a → Back (k + 1) ≡ x
   back-home u h f z = rw add-one (sym (rw (f, eq-eqb u a z) at (opened h)))
@@ -52,11 +50,16 @@ module _ (t : Edges) (a r space : ℕ) where
   pub has-room : (k : ℕ) → moves t a ≡ Back k → k ≤ space → Steps k ≡ walked r space (moves t a)
   has-room k e h = rw (e, le-ltb space k h)
 
-  pub does-not-close : (q : Refusal) → moves t a ≡ Open → q ≡ refusal 32 r → Refused q ≡ walked r space (moves t a)
-  does-not-close q e g = rw (e, g)
+-- the count says how many steps, or refuses
+pub steps-back : (r k : ℕ) (m : Moves) → inFull r m ≡ Steps k → m ≡ Back k
+steps-back r k (Back j) e = cc
+steps-back r k Open e = clash (cc)
+steps-back r k (Stuck q) e = clash (cc)
 
-  pub gets-stuck : (q : Refusal) → moves t a ≡ Stuck q → Refused q ≡ walked r space (moves t a)
-  gets-stuck q e = rw e
+pub refused-anyway : (r space : ℕ) (q : Refusal) (m : Moves) → inFull r m ≡ Refused q → Refused q ≡ walked r space m
+refused-anyway r space q (Back j) e = clash (cc)
+refused-anyway r space q Open e = sym e
+refused-anyway r space q (Stuck p) e = sym e
 
 -- ---- the walk from a ring row: the tests before it, in order
 written-is : (t : Tile) (r : ℕ) (w : Walked) (d : List ℕ) → pathWritten (t .edg) (startSide t r) w d ≡ sidesWritten t r w d
@@ -78,11 +81,13 @@ module _ (t : Tile) (r space : ℕ) where
       unfolding startMissing startSide emptyStart
       missing = λ i. startMissing (E t) (F t) (R t) (t .edg .rightFace) (t .edg .leftFace) (x i) (y i)
 
-      pub walk-no-start : (q : Refusal) → startMissing (E t) (F t) (R t) (t .edg .rightFace) (t .edg .leftFace) f e ≡ true → q ≡ refusal 29 r → Refused q ≡ walkOf t r space
+      pub walk-no-start : (q : Refusal) → startMissing (E t) (F t) (R t) (t .edg .rightFace)
+          (t .edg .leftFace) f e ≡ true → q ≡ refusal 29 r → Refused q ≡ walkOf t r space
       unfolding walkOf
       walk-no-start q m g = rw (w, o, sym missing ∙ m, g)
 
-      module _ (m : startMissing (E t) (F t) (R t) (t .edg .rightFace) (t .edg .leftFace) f e ≡ false) (a : ℕ) (s : a ≡ sideWith (E t) (t .edg .rightFace) (t .edg .leftFace) f e) where
+      module _ (m : startMissing (E t) (F t) (R t) (t .edg .rightFace) (t .edg .leftFace) f e ≡ false) (a : ℕ)
+          (s : a ≡ sideWith (E t) (t .edg .rightFace) (t .edg .leftFace) f e) where
         starts-at : a ≡ startSide t r
         unfolding startSide
         starts-at = s ∙ (λ i. sideWith (E t) (t .edg .rightFace) (t .edg .leftFace) (x i) (y i))
@@ -93,7 +98,8 @@ module _ (t : Tile) (r space : ℕ) where
 
         pub walk-on : (a ≡ 0 → ⊥) → (v : Walked) → v ≡ walked r space (moves (t .edg) a) → v ≡ walkOf t r space
         unfolding walkOf
-        walk-on z v h = rw (w, o, sym missing ∙ m, ne-eqb (startSide t r) 0 (λ k. z (starts-at ∙ k))) (h ∙ ap (λ (b : ℕ). walked r space (moves (t .edg) b)) starts-at)
+        walk-on z v h = rw (w, o, sym missing ∙ m, ne-eqb (startSide t r) 0 (λ k. z (starts-at ∙ k)))
+            (h ∙ ap (λ (b : ℕ). walked r space (moves (t .edg) b)) starts-at)
 
         pub walk-written : (v : Walked) (d c : List ℕ) → c ≡ pathWritten (t .edg) a v d → c ≡ sidesWritten t r v d
         walk-written v d c h = h ∙ ap (λ (b : ℕ). pathWritten (t .edg) b v d) starts-at ∙ written-is t r v d

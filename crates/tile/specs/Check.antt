@@ -15,7 +15,8 @@ use Rattle.side.specs.declared.Successor.{Successor}
 use Rattle.side.specs.declared.Successor.the-variants.{Side, Wrong}
 use Rattle.side.specs.Edges.{Edges, outside}
 use Rattle.side.specs.Successor.{successor, after}
-use Rattle.tile.specs.Columns.{Tile, E, F, R, N, sides, mostRows, startSide, emptyStart}
+use Rattle.limits.specs.Limits.{mostRows}
+use Rattle.tile.specs.Columns.{Tile, E, F, R, N, sides, startSide, emptyStart}
 use Rattle.tile.specs.declared.Verdict.{Verdict}
 use Rattle.tile.specs.declared.Verdict.the-variants.{Accepted, Refused}
 

@@ -1,11 +1,12 @@
 -- A tile as ten columns of numbers. Rows count from 1; 0 stands for none.
 use mathlib.Core.Path.{_≡_}
-use mathlib.Core.Bool.{Bool, true, false, cond, not, _&&_, _||_}
+use mathlib.Core.Bool.{Bool, cond, _&&_}
 use mathlib.Core.List.{List}
 use Prim.Native.Nat.{ℕ, _*_, _≤_}
-use lib.Dec.{eqb, ltb}
+use lib.Dec.{eqb}
 use lib.ListN.{length}
 use Rattle.laws.specs.Orbit.{entry}
+use Rattle.limits.specs.Limits.{mostRows}
 use Rattle.side.specs.Edges.{Edges, edgeCount, outside, right, left}
 
 pub record Tile : Type 0 where
@@ -33,10 +34,6 @@ N t = length (t .firstEdge)
 
 abbrev pub sides : Tile → ℕ
 sides t = 2 * E t
-
--- "over 1,000,000 rows"
-abbrev pub mostRows : ℕ
-mostRows = 1000000
 
 -- the columns of one edge table, of right sizes
 abbrev pub Regular : Edges → Type 0

@@ -8,7 +8,8 @@ use Rattle.laws.specs.Lowest.{In, Each, LowestFailing}
 use Rattle.laws.specs.Orbit.{entry, iterate}
 use Rattle.side.specs.Edges.{right, left, edgeOf, face}
 use Rattle.side.specs.Successor.{Follows, Fault, after}
-use Rattle.tile.specs.Columns.{Tile, E, F, R, N, sides, mostRows, startSide}
+use Rattle.limits.specs.Limits.{mostRows}
+use Rattle.tile.specs.Columns.{Tile, E, F, R, N, sides, startSide}
 
 -- "sizes (15)"
 pub record Sizes (t : Tile) : Type 0 where

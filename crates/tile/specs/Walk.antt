@@ -14,10 +14,14 @@ use Rattle.side.specs.Edges.{Edges, sideCount, outside, edgeOf}
 use Rattle.side.specs.Successor.{successor, after}
 use Rattle.tile.specs.Columns.{Tile, R, sides, startSide}
 use Rattle.tile.specs.Check.{sizesWrong, startWrong}
-use Rattle.tile.specs.declared.Moves.{Moves}
-use Rattle.tile.specs.declared.Moves.the-variants.{Back, Open, Stuck}
 use Rattle.tile.specs.declared.Walked.{Walked}
 use Rattle.tile.specs.declared.Walked.the-variants.{Steps, Refused}
+
+-- what the moves from a start side come to: back after so many of them, no return, or one that cannot be made
+pub data Moves : Type 0 where
+  Back : ℕ → Moves
+  Open : Moves
+  Stuck : Refusal → Moves
 
 -- a move that cannot be made: 22 at the edge row, 23 to 25 at the side
 abbrev pub stuckAt : ℕ → ℕ → Refusal

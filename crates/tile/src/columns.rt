@@ -1,18 +1,19 @@
 // 20 to 25, 27 and 28's range: tests over the rows of the columns, and over the sides.
 use crate::owners;
-use crate::successors;
+use refusal::EDGE_OUT_OF_RANGE;
+use refusal::FACE_OUT_OF_RANGE;
+use refusal::NODE_OUT_OF_RANGE;
 use refusal::Refusal;
 use side::Successor;
 ghost use mathlib.Core.Path.{_≡_};
-ghost use mathlib.Core.List.{[], _∷_};
 ghost use Prim.Native.Nat.{ℕ, _*_, _≤_};
 ghost use lib.ListN.{length};
 ghost use Rattle.laws.specs.Orbit.{entry};
 ghost use Rattle.laws.specs.Lowest.{lowest};
 ghost use Rattle.laws.specs.Buffer.{front};
 ghost use Rattle.laws.specs.Marks.{zeros};
-ghost use Rattle.refusal.specs.Order.{located, firstOf};
-ghost use Rattle.side.specs.Edges.{Edges, edges, edgeCount, sideCount, outside};
+ghost use Rattle.refusal.specs.Order.{firstOf};
+ghost use Rattle.side.specs.Edges.{edges, outside};
 ghost use Rattle.tile.specs.Columns.{Regular};
 ghost use Rattle.tile.specs.Serving.Stages.{edgeTests, tallied};
 ghost use Rattle.tile.specs.Check.{rowOutside, entryOutside, edgeAway, edgeSideRefusal};
@@ -24,10 +25,7 @@ pub(crate) fn is_outside(most: usize, x: usize) -> bool
     if x == 0 {
         return true;
     }
-    if most < x {
-        return true;
-    }
-    false
+    most < x
 }
 
 // Whether one of two columns has a number outside 1..most in row e.
@@ -37,10 +35,7 @@ fn row_outside(most: usize, a: &[u32], b: &[u32], e: usize) -> bool
     if is_outside(most, side::row(a, e) as usize) {
         return true;
     }
-    if is_outside(most, side::row(b, e) as usize) {
-        return true;
-    }
-    false
+    is_outside(most, side::row(b, e) as usize)
 }
 
 // The lowest of the rows 1..n of two columns with a number outside 1..most, or 0.
@@ -81,15 +76,13 @@ fn is_away(start_node: &[u32], end_node: &[u32], node: usize, e: usize) -> bool
     if side::row(start_node, e) as usize == node {
         return false;
     }
-    if side::row(end_node, e) as usize == node {
-        return false;
-    }
-    true
+    side::row(end_node, e) as usize != node
 }
 
 // The lowest node whose first_edge is no edge or does not touch it, or 0.
 pub(crate) fn bad_node(start_node: &[u32], end_node: &[u32], first_edge: &[u32]) -> usize
-    ensures { λ r. ⌜ r ≡ lowest (λ (n : ℕ). edgeAway (now («start_node» .entry)) (now («end_node» .entry)) n (entry (now («first_edge» .entry)) n)) (length (now («first_edge» .entry))) ⌝ }
+    ensures { λ r. ⌜ r ≡ lowest (λ (n : ℕ). edgeAway (now («start_node» .entry)) (now («end_node» .entry)) n (entry
+        (now («first_edge» .entry)) n)) (length (now («first_edge» .entry))) ⌝ }
 {
     let mut i: usize = 0;
     while i < first_edge.len() {
@@ -111,23 +104,9 @@ pub(crate) fn judge_side(
     left_edge: &[u32],
     s: usize,
 ) -> Refusal
-    requires { ⌜ Regular (edges (now «start_node») (now «end_node») (now «right_face») (now «left_face») (now «right_edge») (now «left_edge»)) ⌝ }
-    requires { ⌜ s ≤ 2 * length (now «start_node») ⌝ }
-    ensures { λ r. ⌜ r ≡ edgeSideRefusal (edges (now («start_node» .entry)) (now («end_node» .entry)) (now («right_face» .entry)) (now
-            («left_face» .entry)) (now («right_edge» .entry)) (now («left_edge» .entry))) s ⌝ }
+    ensures { λ r. ⌜ r ≡ edgeSideRefusal (edges (now («start_node» .entry)) (now («end_node» .entry)) (now («right_face» .entry))
+        (now («left_face» .entry)) (now («right_edge» .entry)) (now («left_edge» .entry))) s ⌝ }
 {
-    let u = successors::side_after(
-        start_node,
-        end_node,
-        right_face,
-        left_face,
-        right_edge,
-        left_edge,
-        s,
-    );
-    if u != 0 {
-        return refusal::no_refusal();
-    }
     match side::next_side(
         start_node,
         end_node,
@@ -154,24 +133,25 @@ pub(crate) fn judge_edges(
     nodes: usize,
     marks: &mut [u32],
 ) -> Refusal
-    requires { ⌜ Regular (edges (now «start_node») (now «end_node») (now «right_face») (now «left_face») (now «right_edge») (now «left_edge»)) ⌝ }
+    requires { ⌜ Regular (edges (now «start_node») (now «end_node») (now «right_face») (now «left_face») (now «right_edge»)
+        (now «left_edge»)) ⌝ }
     requires { ⌜ 2 * length (now «start_node») ≤ length (now marks) ⌝ }
     requires { ⌜ now marks ≡ front zeros (2 * length (now «start_node»)) (now marks) ⌝ }
-    ensures { λ r. ⌜ r ≡ firstOf (edgeTests (edges (now («start_node» .entry)) (now («end_node» .entry)) (now («right_face» .entry)) (now
-            («left_face» .entry)) (now («right_edge» .entry)) (now («left_edge» .entry))) faces nodes) ⌝ }
-    ensures { λ r. ⌜ now (marks .exit) ≡ tallied (edges (now («start_node» .entry)) (now («end_node» .entry)) (now («right_face» .entry)) (now
-            («left_face» .entry)) (now («right_edge» .entry)) (now («left_edge» .entry))) r (now (marks .entry)) ⌝ }
+    ensures { λ r. ⌜ r ≡ firstOf (edgeTests (edges (now («start_node» .entry)) (now («end_node» .entry)) (now («right_face» .entry))
+        (now («left_face» .entry)) (now («right_edge» .entry)) (now («left_edge» .entry))) faces nodes) ⌝ }
+    ensures { λ r. ⌜ now (marks .exit) ≡ tallied (edges (now («start_node» .entry)) (now («end_node» .entry)) (now («right_face» .entry))
+        (now («left_face» .entry)) (now («right_edge» .entry)) (now («left_edge» .entry))) r (now (marks .entry)) ⌝ }
 {
     let n = start_node.len();
-    let a = refusal::refuse_at(20, bad_row(nodes, n, start_node, end_node));
+    let a = refusal::refuse_at(NODE_OUT_OF_RANGE, bad_row(nodes, n, start_node, end_node));
     if a.number != 0 {
         return a;
     }
-    let b = refusal::refuse_at(21, bad_row(faces, n, right_face, left_face));
+    let b = refusal::refuse_at(FACE_OUT_OF_RANGE, bad_row(faces, n, right_face, left_face));
     if b.number != 0 {
         return b;
     }
-    let c = refusal::refuse_at(22, bad_row(n, n, right_edge, left_edge));
+    let c = refusal::refuse_at(EDGE_OUT_OF_RANGE, bad_row(n, n, right_edge, left_edge));
     if c.number != 0 {
         return c;
     }

@@ -7,7 +7,12 @@ mod sizes;
 mod starts;
 mod successors;
 
+use refusal::MANY_BEFORE;
+use refusal::NO_SUCH;
+use refusal::OVER_LIMIT;
 use refusal::Refusal;
+use refusal::TOO_SHORT;
+use refusal::WRONG_START;
 ghost use mathlib.Core.Path.{_≡_};
 ghost use mathlib.Core.Bool.{false};
 ghost use Prim.Native.Nat.{_*_, _≤_};
@@ -22,12 +27,6 @@ ghost use Rattle.tile.specs.Walk.{walkOf, sidesWritten};
 pub enum Verdict {
     Accepted,
     Refused(Refusal),
-}
-
-pub enum Moves {
-    Back(usize),
-    Open,
-    Stuck(Refusal),
 }
 
 pub enum Walked {
@@ -50,14 +49,15 @@ fn judge(
     marks: &mut [u32],
 ) -> Refusal
     requires { ⌜ sizesWrong (tile (edges (now «start_node») (now «end_node») (now «right_face») (now «left_face») (now «right_edge»)
-            (now «left_edge»)) (now «ring_ptr») (now «fac_id») (now «start_edge») (now «first_edge»)) ≡ false ⌝ }
+        (now «left_edge»)) (now «ring_ptr») (now «fac_id») (now «start_edge») (now «first_edge»)) ≡ false ⌝ }
     requires { ⌜ 2 * length (now «start_node») ≤ length (now marks) ⌝ }
-    ensures { λ r. ⌜ r ≡ firstOf (laterTests (tile (edges (now («start_node» .entry)) (now («end_node» .entry)) (now («right_face» .entry)) (now
-            («left_face» .entry)) (now («right_edge» .entry)) (now («left_edge» .entry))) (now («ring_ptr» .entry)) (now («fac_id» .entry)) (now
-            («start_edge» .entry)) (now («first_edge» .entry)))) ⌝ }
-    ensures { λ r. ⌜ now (marks .exit) ≡ marksJudged (tile (edges (now («start_node» .entry)) (now («end_node» .entry)) (now («right_face» .entry))
-            (now («left_face» .entry)) (now («right_edge» .entry)) (now («left_edge» .entry))) (now («ring_ptr» .entry)) (now («fac_id» .entry))
-            (now («start_edge» .entry)) (now («first_edge» .entry))) r (now (marks .entry)) ⌝ }
+    ensures { λ r. ⌜ r ≡ firstOf (laterTests (tile (edges (now («start_node» .entry)) (now («end_node» .entry)) (now («right_face» .entry))
+        (now («left_face» .entry)) (now («right_edge» .entry)) (now («left_edge» .entry))) (now («ring_ptr» .entry)) (now («fac_id» .entry))
+        (now («start_edge» .entry)) (now («first_edge» .entry)))) ⌝ }
+    ensures { λ r. ⌜ now (marks .exit) ≡ marksJudged (tile (edges (now («start_node» .entry)) (now («end_node» .entry))
+        (now («right_face» .entry)) (now («left_face» .entry)) (now («right_edge» .entry)) (now («left_edge» .entry)))
+        (now («ring_ptr» .entry)) (now («fac_id» .entry)) (now («start_edge» .entry)) (now («first_edge» .entry))) r
+        (now (marks .entry)) ⌝ }
 {
     let n = 2 * start_node.len();
     owners::clear(marks, n);
@@ -76,7 +76,7 @@ fn judge(
         return a;
     }
     let b = refusal::refuse_at(
-        26,
+        MANY_BEFORE,
         owners::doubled(
             start_node,
             end_node,
@@ -118,7 +118,6 @@ fn judge(
     );
     if d.number != 0 {
         owners::clear(marks, n);
-        return d;
     }
     d
 }
@@ -139,12 +138,12 @@ pub fn check(
     first_edge: &[u32],
     marks: &mut [u32],
 ) -> Verdict
-    ensures { λ r. ⌜ r ≡ verdictOf (tile (edges (now («start_node» .entry)) (now («end_node» .entry)) (now («right_face» .entry)) (now
-            («left_face» .entry)) (now («right_edge» .entry)) (now («left_edge» .entry))) (now («ring_ptr» .entry)) (now («fac_id» .entry)) (now
-            («start_edge» .entry)) (now («first_edge» .entry))) (length (now (marks .entry))) ⌝ }
-    ensures { λ r. ⌜ now (marks .exit) ≡ marksAfter (tile (edges (now («start_node» .entry)) (now («end_node» .entry)) (now («right_face» .entry))
-            (now («left_face» .entry)) (now («right_edge» .entry)) (now («left_edge» .entry))) (now («ring_ptr» .entry)) (now («fac_id» .entry))
-            (now («start_edge» .entry)) (now («first_edge» .entry))) (now (marks .entry)) ⌝ }
+    ensures { λ r. ⌜ r ≡ verdictOf (tile (edges (now («start_node» .entry)) (now («end_node» .entry)) (now («right_face» .entry))
+        (now («left_face» .entry)) (now («right_edge» .entry)) (now («left_edge» .entry))) (now («ring_ptr» .entry)) (now («fac_id» .entry))
+        (now («start_edge» .entry)) (now («first_edge» .entry))) (length (now (marks .entry))) ⌝ }
+    ensures { λ r. ⌜ now (marks .exit) ≡ marksAfter (tile (edges (now («start_node» .entry)) (now («end_node» .entry))
+        (now («right_face» .entry)) (now («left_face» .entry)) (now («right_edge» .entry)) (now («left_edge» .entry)))
+        (now («ring_ptr» .entry)) (now («fac_id» .entry)) (now («start_edge» .entry)) (now («first_edge» .entry))) (now (marks .entry)) ⌝ }
 {
     if sizes::sizes_wrong(
         start_node,
@@ -158,11 +157,11 @@ pub fn check(
         start_edge,
         first_edge,
     ) {
-        return Verdict::Refused(refusal::refuse(15, 0));
+        return Verdict::Refused(refusal::refuse(OVER_LIMIT, 0));
     }
     let n = 2 * start_node.len();
     if marks.len() < n {
-        return Verdict::Refused(refusal::refuse(14, n));
+        return Verdict::Refused(refusal::refuse(TOO_SHORT, n));
     }
     let q = judge(
         start_node,
@@ -200,12 +199,13 @@ pub fn walk(
     row: usize,
     out: &mut [u32],
 ) -> Walked
-    ensures { λ r. ⌜ r ≡ walkOf (tile (edges (now («start_node» .entry)) (now («end_node» .entry)) (now («right_face» .entry)) (now
-            («left_face» .entry)) (now («right_edge» .entry)) (now («left_edge» .entry))) (now («ring_ptr» .entry)) (now («fac_id» .entry)) (now
-            («start_edge» .entry)) (now («first_edge» .entry))) row (length (now (out .entry))) ⌝ }
-    ensures { λ r. ⌜ now (out .exit) ≡ sidesWritten (tile (edges (now («start_node» .entry)) (now («end_node» .entry)) (now («right_face» .entry))
-            (now («left_face» .entry)) (now («right_edge» .entry)) (now («left_edge» .entry))) (now («ring_ptr» .entry)) (now («fac_id» .entry))
-            (now («start_edge» .entry)) (now («first_edge» .entry))) row r (now (out .entry)) ⌝ }
+    ensures { λ r. ⌜ r ≡ walkOf (tile (edges (now («start_node» .entry)) (now («end_node» .entry)) (now («right_face» .entry))
+        (now («left_face» .entry)) (now («right_edge» .entry)) (now («left_edge» .entry))) (now («ring_ptr» .entry)) (now («fac_id» .entry))
+        (now («start_edge» .entry)) (now («first_edge» .entry))) row (length (now (out .entry))) ⌝ }
+    ensures { λ r. ⌜ now (out .exit) ≡ sidesWritten (tile (edges (now («start_node» .entry)) (now («end_node» .entry))
+        (now («right_face» .entry)) (now («left_face» .entry)) (now («right_edge» .entry)) (now («left_edge» .entry)))
+        (now («ring_ptr» .entry)) (now («fac_id» .entry)) (now («start_edge» .entry)) (now («first_edge» .entry))) row r
+        (now (out .entry)) ⌝ }
 {
     if sizes::sizes_wrong(
         start_node,
@@ -219,17 +219,17 @@ pub fn walk(
         start_edge,
         first_edge,
     ) {
-        return Walked::Refused(refusal::refuse(15, 0));
+        return Walked::Refused(refusal::refuse(OVER_LIMIT, 0));
     }
     let edges = start_node.len();
     let rings = fac_id.len();
     if columns::is_outside(rings, row) {
-        return Walked::Refused(refusal::refuse(13, row));
+        return Walked::Refused(refusal::refuse(NO_SUCH, row));
     }
     let face = side::row(fac_id, row);
     let e = side::row(start_edge, row);
     if starts::has_no_start(edges, ring_ptr.len(), rings, right_face, left_face, face, e) {
-        return Walked::Refused(refusal::refuse(29, row));
+        return Walked::Refused(refusal::refuse(WRONG_START, row));
     }
     let start = starts::side_with(edges, right_face, left_face, face, e);
     if start == 0 {

@@ -2,21 +2,23 @@
 use crate::columns;
 use crate::starts;
 use crate::successors;
+use refusal::CYCLE_OWNED;
+use refusal::NO_RING;
 use refusal::Refusal;
 ghost use mathlib.Core.Path.{_≡_};
-ghost use Prim.Native.Nat.{ℕ, suc, min, _+_, _*_, _≤_, _<_};
+ghost use Prim.Native.Nat.{ℕ, min, _+_, _*_, _≤_};
 ghost use lib.Dec.{eqb};
 ghost use lib.ListN.{length};
-ghost use Rattle.laws.specs.Orbit.{entry, firstDoubled, firstTaken};
+ghost use Rattle.laws.specs.Orbit.{entry};
 ghost use Rattle.laws.specs.Lowest.{lowest};
 ghost use Rattle.laws.specs.Buffer.{front};
-ghost use Rattle.laws.specs.Marks.{zeros, count, painted};
-ghost use Rattle.refusal.specs.Order.{fine, lowestOf, firstOf};
-ghost use Rattle.side.specs.Edges.{edges, sideCount};
-ghost use Rattle.side.specs.Successor.{after};
-ghost use Rattle.tile.specs.Columns.{mostRows, Regular};
-ghost use Rattle.tile.specs.Check.{edgeSideRefusal};
-ghost use Rattle.tile.specs.Serving.Stages.{tallied, startOf, lacksStart, ownerTests, ownersPainted};
+ghost use Rattle.laws.specs.Marks.{zeros};
+ghost use Rattle.refusal.specs.Order.{firstOf};
+ghost use Rattle.side.specs.Edges.{edges};
+ghost use Rattle.limits.specs.Limits.{mostRows};
+ghost use Rattle.tile.specs.Columns.{Regular};
+ghost use Rattle.tile.specs.Serving.Stages.{refusedAtSide, tallied, doubledSide, predecessorsCounted, Cycles, cyclePainted};
+ghost use Rattle.tile.specs.Serving.Stages.{Paintable, takenRing, ownerTests, ownersPainted};
 
 // Sets the first n marks to zero.
 pub(crate) fn clear(marks: &mut [u32], n: usize)
@@ -63,14 +65,14 @@ pub(crate) fn tally(
     left_edge: &[u32],
     marks: &mut [u32],
 ) -> Refusal
-    requires { ⌜ Regular (edges (now «start_node») (now «end_node») (now «right_face») (now «left_face») (now «right_edge») (now «left_edge»)) ⌝ }
+    requires { ⌜ Regular (edges (now «start_node») (now «end_node») (now «right_face») (now «left_face») (now «right_edge»)
+        (now «left_edge»)) ⌝ }
     requires { ⌜ 2 * length (now «start_node») ≤ length (now marks) ⌝ }
     requires { ⌜ now marks ≡ front zeros (2 * length (now «start_node»)) (now marks) ⌝ }
-    ensures { λ r. ⌜ r ≡ lowestOf (edgeSideRefusal (edges (now («start_node» .entry)) (now («end_node» .entry)) (now («right_face» .entry)) (now
-            («left_face» .entry)) (now («right_edge» .entry)) (now («left_edge» .entry)))) (sideCount (edges (now («start_node» .entry)) (now
-            («end_node» .entry)) (now («right_face» .entry)) (now («left_face» .entry)) (now («right_edge» .entry)) (now («left_edge» .entry)))) ⌝ }
-    ensures { λ r. ⌜ now (marks .exit) ≡ tallied (edges (now («start_node» .entry)) (now («end_node» .entry)) (now («right_face» .entry)) (now
-            («left_face» .entry)) (now («right_edge» .entry)) (now («left_edge» .entry))) r (now (marks .entry)) ⌝ }
+    ensures { λ r. ⌜ r ≡ refusedAtSide (edges (now («start_node» .entry)) (now («end_node» .entry)) (now («right_face» .entry))
+        (now («left_face» .entry)) (now («right_edge» .entry)) (now («left_edge» .entry))) ⌝ }
+    ensures { λ r. ⌜ now (marks .exit) ≡ tallied (edges (now («start_node» .entry)) (now («end_node» .entry)) (now («right_face» .entry))
+        (now («left_face» .entry)) (now («right_edge» .entry)) (now («left_edge» .entry))) r (now (marks .entry)) ⌝ }
 {
     let n = 2 * start_node.len();
     let mut i: usize = 0;
@@ -115,10 +117,10 @@ pub(crate) fn doubled(
 ) -> usize
     requires { ⌜ length (now «start_node») ≤ mostRows ⌝ }
     requires { ⌜ 2 * length (now «start_node») ≤ length (now marks) ⌝ }
-    requires { ⌜ now marks ≡ front (count (after (edges (now «start_node») (now «end_node») (now «right_face») (now «left_face») (now «right_edge»)
-            (now «left_edge»))) (2 * length (now «start_node»))) (2 * length (now «start_node»)) (now marks) ⌝ }
-    ensures { λ r. ⌜ r ≡ firstDoubled (after (edges (now («start_node» .entry)) (now («end_node» .entry)) (now («right_face» .entry)) (now
-            («left_face» .entry)) (now («right_edge» .entry)) (now («left_edge» .entry)))) (2 * length (now («start_node» .entry))) ⌝ }
+    requires { ⌜ now marks ≡ predecessorsCounted (edges (now «start_node») (now «end_node») (now «right_face») (now «left_face»)
+        (now «right_edge») (now «left_edge»)) (now marks) ⌝ }
+    ensures { λ r. ⌜ r ≡ doubledSide (edges (now («start_node» .entry)) (now («end_node» .entry)) (now («right_face» .entry))
+        (now («left_face» .entry)) (now («right_edge» .entry)) (now («left_edge» .entry))) ⌝ }
 {
     find(marks, 2 * start_node.len(), 2)
 }
@@ -135,16 +137,13 @@ fn paint(
     row: u32,
     marks: &mut [u32],
 )
-    requires { ⌜ Regular (edges (now «start_node») (now «end_node») (now «right_face») (now «left_face») (now «right_edge») (now «left_edge»)) ⌝ }
-    requires { ⌜ lowestOf (edgeSideRefusal (edges (now «start_node») (now «end_node») (now «right_face») (now «left_face») (now «right_edge»)
-            (now «left_edge»))) (sideCount (edges (now «start_node») (now «end_node») (now «right_face») (now «left_face») (now «right_edge»)
-            (now «left_edge»))) ≡ fine ⌝ }
-    requires { ⌜ firstDoubled (after (edges (now «start_node») (now «end_node») (now «right_face») (now «left_face») (now «right_edge») (now «left_edge»))) (2 * length (now «start_node»)) ≡ 0 ⌝ }
+    requires { ⌜ Cycles (edges (now «start_node») (now «end_node») (now «right_face») (now «left_face») (now «right_edge»)
+        (now «left_edge»)) ⌝ }
     requires { ⌜ 2 * length (now «start_node») ≤ length (now marks) ⌝ }
     requires { ⌜ start ≤ 2 * length (now «start_node») ⌝ }
-    ensures { λ _. ⌜ now (marks .exit) ≡ front (painted (after (edges (now («start_node» .entry)) (now («end_node» .entry)) (now
-            («right_face» .entry)) (now («left_face» .entry)) (now («right_edge» .entry)) (now («left_edge» .entry)))) (now
-            (marks .entry)) start row (2 * length (now («start_node» .entry)))) (2 * length (now («start_node» .entry))) (now (marks .entry)) ⌝ }
+    ensures { λ _. ⌜ now (marks .exit) ≡ cyclePainted (edges (now («start_node» .entry)) (now («end_node» .entry))
+        (now («right_face» .entry)) (now («left_face» .entry)) (now («right_edge» .entry)) (now («left_edge» .entry))) start row
+        (now (marks .entry)) ⌝ }
 {
     if start == 0 {
         return;
@@ -183,21 +182,15 @@ fn own(
     start_edge: &[u32],
     marks: &mut [u32],
 ) -> usize
-    requires { ⌜ Regular (edges (now «start_node») (now «end_node») (now «right_face») (now «left_face») (now «right_edge») (now «left_edge»)) × (length (now «fac_id») ≤ mostRows) ⌝ }
-    requires { ⌜ lowestOf (edgeSideRefusal (edges (now «start_node») (now «end_node») (now «right_face») (now «left_face») (now «right_edge»)
-            (now «left_edge»))) (sideCount (edges (now «start_node») (now «end_node») (now «right_face») (now «left_face») (now «right_edge»)
-            (now «left_edge»))) ≡ fine ⌝ }
-    requires { ⌜ firstDoubled (after (edges (now «start_node») (now «end_node») (now «right_face») (now «left_face») (now «right_edge») (now «left_edge»))) (2 * length (now «start_node»)) ≡ 0 ⌝ }
+    requires { ⌜ Paintable (edges (now «start_node») (now «end_node») (now «right_face») (now «left_face») (now «right_edge»)
+        (now «left_edge»)) (now «fac_id») (now «start_edge») ⌝ }
     requires { ⌜ 2 * length (now «start_node») ≤ length (now marks) ⌝ }
-    requires { ⌜ lowest (lacksStart (edges (now «start_node») (now «end_node») (now «right_face») (now «left_face») (now «right_edge»)
-            (now «left_edge»)) (now «fac_id») (now «start_edge»)) (length (now «fac_id»)) ≡ 0 ⌝ }
-    ensures { λ r. ⌜ r ≡ firstTaken (after (edges (now («start_node» .entry)) (now («end_node» .entry)) (now («right_face» .entry)) (now
-            («left_face» .entry)) (now («right_edge» .entry)) (now («left_edge» .entry)))) (2 * length (now («start_node» .entry))) (startOf (edges
-            (now («start_node» .entry)) (now («end_node» .entry)) (now («right_face» .entry)) (now («left_face» .entry)) (now («right_edge» .entry))
-            (now («left_edge» .entry))) (now («fac_id» .entry)) (now («start_edge» .entry))) (length (now («fac_id» .entry))) ⌝ }
-    ensures { λ r. ⌜ now (marks .exit) ≡ ownersPainted (edges (now («start_node» .entry)) (now («end_node» .entry)) (now («right_face» .entry)) (now
-            («left_face» .entry)) (now («right_edge» .entry)) (now («left_edge» .entry))) (now («fac_id» .entry)) (now («start_edge» .entry)) (now
-            (marks .entry)) ⌝ }
+    ensures { λ r. ⌜ r ≡ takenRing (edges (now («start_node» .entry)) (now («end_node» .entry)) (now («right_face» .entry))
+        (now («left_face» .entry)) (now («right_edge» .entry)) (now («left_edge» .entry))) (now («fac_id» .entry))
+        (now («start_edge» .entry)) ⌝ }
+    ensures { λ r. ⌜ now (marks .exit) ≡ ownersPainted (edges (now («start_node» .entry)) (now («end_node» .entry))
+        (now («right_face» .entry)) (now («left_face» .entry)) (now («right_edge» .entry)) (now («left_edge» .entry)))
+        (now («fac_id» .entry)) (now («start_edge» .entry)) (now (marks .entry)) ⌝ }
 {
     let edges = start_node.len();
     clear(marks, 2 * edges);
@@ -236,22 +229,18 @@ pub(crate) fn judge_owners(
     start_edge: &[u32],
     marks: &mut [u32],
 ) -> Refusal
-    requires { ⌜ Regular (edges (now «start_node») (now «end_node») (now «right_face») (now «left_face») (now «right_edge») (now «left_edge»)) × (length (now «fac_id») ≤ mostRows) ⌝ }
-    requires { ⌜ lowestOf (edgeSideRefusal (edges (now «start_node») (now «end_node») (now «right_face») (now «left_face») (now «right_edge»)
-            (now «left_edge»))) (sideCount (edges (now «start_node») (now «end_node») (now «right_face») (now «left_face») (now «right_edge»)
-            (now «left_edge»))) ≡ fine ⌝ }
-    requires { ⌜ firstDoubled (after (edges (now «start_node») (now «end_node») (now «right_face») (now «left_face») (now «right_edge») (now «left_edge»))) (2 * length (now «start_node»)) ≡ 0 ⌝ }
+    requires { ⌜ Paintable (edges (now «start_node») (now «end_node») (now «right_face») (now «left_face») (now «right_edge»)
+        (now «left_edge»)) (now «fac_id») (now «start_edge») ⌝ }
     requires { ⌜ 2 * length (now «start_node») ≤ length (now marks) ⌝ }
-    requires { ⌜ lowest (lacksStart (edges (now «start_node») (now «end_node») (now «right_face») (now «left_face») (now «right_edge»)
-            (now «left_edge»)) (now «fac_id») (now «start_edge»)) (length (now «fac_id»)) ≡ 0 ⌝ }
-    ensures { λ r. ⌜ r ≡ firstOf (ownerTests (edges (now («start_node» .entry)) (now («end_node» .entry)) (now («right_face» .entry)) (now
-            («left_face» .entry)) (now («right_edge» .entry)) (now («left_edge» .entry))) (now («fac_id» .entry)) (now («start_edge» .entry))) ⌝ }
-    ensures { λ r. ⌜ now (marks .exit) ≡ ownersPainted (edges (now («start_node» .entry)) (now («end_node» .entry)) (now («right_face» .entry)) (now
-            («left_face» .entry)) (now («right_edge» .entry)) (now («left_edge» .entry))) (now («fac_id» .entry)) (now («start_edge» .entry)) (now
-            (marks .entry)) ⌝ }
+    ensures { λ r. ⌜ r ≡ firstOf (ownerTests (edges (now («start_node» .entry)) (now («end_node» .entry)) (now («right_face» .entry))
+        (now («left_face» .entry)) (now («right_edge» .entry)) (now («left_edge» .entry))) (now («fac_id» .entry))
+        (now («start_edge» .entry))) ⌝ }
+    ensures { λ r. ⌜ now (marks .exit) ≡ ownersPainted (edges (now («start_node» .entry)) (now («end_node» .entry))
+        (now («right_face» .entry)) (now («left_face» .entry)) (now («right_edge» .entry)) (now («left_edge» .entry)))
+        (now («fac_id» .entry)) (now («start_edge» .entry)) (now (marks .entry)) ⌝ }
 {
     let a = refusal::refuse_at(
-        30,
+        CYCLE_OWNED,
         own(
             start_node,
             end_node,
@@ -267,5 +256,5 @@ pub(crate) fn judge_owners(
     if a.number != 0 {
         return a;
     }
-    refusal::refuse_at(31, find(marks, 2 * start_node.len(), 0))
+    refusal::refuse_at(NO_RING, find(marks, 2 * start_node.len(), 0))
 }

@@ -28,7 +28,8 @@ fn lesser_of(a: usize, b: usize) -> usize
 // The face of ring row i + 1 if a run begins there and the face points at another row, else 0.
 fn misplaced(ring_ptr: &[u32], fac_id: &[u32], i: usize) -> usize
     requires { ⌜ i < length (now «fac_id») ⌝ }
-    ensures { λ r. ⌜ r ≡ cond (beginsElsewhere (now («ring_ptr» .entry)) (now («fac_id» .entry)) (suc i)) (entry (now («fac_id» .entry)) (suc i)) 0 ⌝ }
+    ensures { λ r. ⌜ r ≡ cond (beginsElsewhere (now («ring_ptr» .entry)) (now («fac_id» .entry)) (suc i)) (entry (now («fac_id» .entry))
+        (suc i)) 0 ⌝ }
 {
     let face = fac_id[i] as usize;
     if side::row(fac_id, i) as usize == face {
@@ -42,7 +43,8 @@ fn misplaced(ring_ptr: &[u32], fac_id: &[u32], i: usize) -> usize
 
 // The lowest face of which a run begins elsewhere than where it points, or 0.
 fn lowest_misplaced(ring_ptr: &[u32], fac_id: &[u32]) -> usize
-    ensures { λ r. ⌜ r ≡ least (beginsElsewhere (now («ring_ptr» .entry)) (now («fac_id» .entry))) (entry (now («fac_id» .entry))) (length (now («fac_id» .entry))) ⌝ }
+    ensures { λ r. ⌜ r ≡ least (beginsElsewhere (now («ring_ptr» .entry)) (now («fac_id» .entry))) (entry (now («fac_id» .entry))) (length
+        (now («fac_id» .entry))) ⌝ }
 {
     let mut low: usize = 0;
     let mut i: usize = 0;

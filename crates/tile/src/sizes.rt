@@ -1,13 +1,12 @@
 // 15: the lengths of the ten slices.
+use limits::MOST_ROWS;
 ghost use mathlib.Core.Path.{_≡_};
 ghost use mathlib.Core.Bool.{not, _||_};
 ghost use lib.Dec.{eqb, ltb};
-ghost use lib.ListN.{length};
 ghost use Rattle.side.specs.Edges.{edges};
-ghost use Rattle.tile.specs.Columns.{mostRows, tile};
+ghost use Rattle.limits.specs.Limits.{mostRows};
+ghost use Rattle.tile.specs.Columns.{tile};
 ghost use Rattle.tile.specs.Check.{sizesWrong};
-
-pub(crate) const MOST_ROWS: usize = 1_000_000;
 
 // Whether a column of the edge table has another length than start_node, or start_edge than fac_id.
 fn slices_unequal(
@@ -20,8 +19,8 @@ fn slices_unequal(
     rings: usize,
     start_edge: usize,
 ) -> bool
-    ensures { λ r. ⌜ r ≡ (not (eqb «end_node» edges) || (not (eqb «right_face» edges) || (not (eqb «left_face» edges) || (not
-            (eqb «right_edge» edges) || (not (eqb «left_edge» edges) || not (eqb «start_edge» rings)))))) ⌝ }
+    ensures { λ r. ⌜ r ≡ (not (eqb «end_node» edges) || (not (eqb «right_face» edges) || (not (eqb «left_face» edges) || (not (eqb
+        «right_edge» edges) || (not (eqb «left_edge» edges) || not (eqb «start_edge» rings)))))) ⌝ }
 {
     if end_node != edges {
         return true;
@@ -38,10 +37,7 @@ fn slices_unequal(
     if left_edge != edges {
         return true;
     }
-    if start_edge != rings {
-        return true;
-    }
-    false
+    start_edge != rings
 }
 
 // Whether a table has too many rows.
@@ -57,10 +53,7 @@ fn too_many(edges: usize, faces: usize, rings: usize, nodes: usize) -> bool
     if MOST_ROWS < rings {
         return true;
     }
-    if MOST_ROWS < nodes {
-        return true;
-    }
-    false
+    MOST_ROWS < nodes
 }
 
 // Slices of one table unequal, over 1,000,000 rows, or no face or no ring.
@@ -76,9 +69,9 @@ pub(crate) fn sizes_wrong(
     start_edge: &[u32],
     first_edge: &[u32],
 ) -> bool
-    ensures { λ r. ⌜ r ≡ sizesWrong (tile (edges (now («start_node» .entry)) (now («end_node» .entry)) (now («right_face» .entry)) (now
-            («left_face» .entry)) (now («right_edge» .entry)) (now («left_edge» .entry))) (now («ring_ptr» .entry)) (now («fac_id» .entry)) (now
-            («start_edge» .entry)) (now («first_edge» .entry))) ⌝ }
+    ensures { λ r. ⌜ r ≡ sizesWrong (tile (edges (now («start_node» .entry)) (now («end_node» .entry)) (now («right_face» .entry))
+        (now («left_face» .entry)) (now («right_edge» .entry)) (now («left_edge» .entry))) (now («ring_ptr» .entry)) (now («fac_id» .entry))
+        (now («start_edge» .entry)) (now («first_edge» .entry))) ⌝ }
 {
     let edges = start_node.len();
     let faces = ring_ptr.len();
@@ -101,8 +94,5 @@ pub(crate) fn sizes_wrong(
     if faces == 0 {
         return true;
     }
-    if rings == 0 {
-        return true;
-    }
-    false
+    rings == 0
 }

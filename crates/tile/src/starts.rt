@@ -2,6 +2,9 @@
 use crate::columns;
 use crate::runs;
 use refusal::Refusal;
+use refusal::WRONG_FIRST_EDGE;
+use refusal::WRONG_RING_ROWS;
+use refusal::WRONG_START;
 ghost use mathlib.Core.Path.{_≡_};
 ghost use Prim.Native.Nat.{ℕ};
 ghost use lib.ListN.{length};
@@ -47,10 +50,7 @@ fn may_be_empty(edges: usize, faces: usize, rings: usize, e: u32) -> bool
     if faces != 1 {
         return false;
     }
-    if rings != 1 {
-        return false;
-    }
-    true
+    rings == 1
 }
 
 // Whether a ring with the face and the start edge e has neither a start side nor the allowed 0.
@@ -68,10 +68,7 @@ pub(crate) fn has_no_start(
     if may_be_empty(edges, faces, rings, e) {
         return false;
     }
-    if side_with(edges, right_face, left_face, face, e) == 0 {
-        return true;
-    }
-    false
+    side_with(edges, right_face, left_face, face, e) == 0
 }
 
 // The lowest ring row with a wrong start, or 0.
@@ -83,8 +80,9 @@ fn bad_start(
     fac_id: &[u32],
     start_edge: &[u32],
 ) -> usize
-    ensures { λ r. ⌜ r ≡ lowest (λ (r : ℕ). startMissing edges faces (length (now («fac_id» .entry))) (now («right_face» .entry)) (now
-            («left_face» .entry)) (entry (now («fac_id» .entry)) r) (entry (now («start_edge» .entry)) r)) (length (now («fac_id» .entry))) ⌝ }
+    ensures { λ r. ⌜ r ≡ lowest (λ (r : ℕ). startMissing edges faces (length (now («fac_id» .entry))) (now («right_face» .entry))
+        (now («left_face» .entry)) (entry (now («fac_id» .entry)) r) (entry (now («start_edge» .entry)) r)) (length
+        (now («fac_id» .entry))) ⌝ }
 {
     let rings = fac_id.len();
     let mut i: usize = 0;
@@ -109,24 +107,28 @@ pub(crate) fn judge_rings(
     start_edge: &[u32],
     first_edge: &[u32],
 ) -> Refusal
-    ensures { λ r. ⌜ r ≡ firstOf (ringTests (now («start_node» .entry)) (now («end_node» .entry)) (now («right_face» .entry)) (now
-            («left_face» .entry)) (now («ring_ptr» .entry)) (now («fac_id» .entry)) (now («start_edge» .entry)) (now («first_edge» .entry))) ⌝ }
+    ensures { λ r. ⌜ r ≡ firstOf (ringTests (now («start_node» .entry)) (now («end_node» .entry)) (now («right_face» .entry))
+        (now («left_face» .entry)) (now («ring_ptr» .entry)) (now («fac_id» .entry)) (now («start_edge» .entry))
+        (now («first_edge» .entry))) ⌝ }
 {
     let faces = ring_ptr.len();
-    let a = refusal::refuse_at(27, columns::bad_node(start_node, end_node, first_edge));
+    let a = refusal::refuse_at(
+        WRONG_FIRST_EDGE,
+        columns::bad_node(start_node, end_node, first_edge),
+    );
     if a.number != 0 {
         return a;
     }
-    let b = refusal::refuse_at(28, columns::bad_entry(faces, fac_id));
+    let b = refusal::refuse_at(WRONG_RING_ROWS, columns::bad_entry(faces, fac_id));
     if b.number != 0 {
         return b;
     }
-    let c = refusal::refuse_at(28, runs::bad_run(ring_ptr, fac_id));
+    let c = refusal::refuse_at(WRONG_RING_ROWS, runs::bad_run(ring_ptr, fac_id));
     if c.number != 0 {
         return c;
     }
     refusal::refuse_at(
-        29,
+        WRONG_START,
         bad_start(
             start_node.len(),
             faces,

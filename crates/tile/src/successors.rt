@@ -72,9 +72,10 @@ fn linked_side(
     node: u32,
     face: u32,
 ) -> usize
-    requires { ⌜ Regular (edges (now «start_node») (now «end_node») (now «right_face») (now «left_face») (now «right_edge») (now «left_edge»)) ⌝ }
-    ensures { λ r. ⌜ r ≡ sideOf (leavingEdge (edges (now («start_node» .entry)) (now («end_node» .entry)) (now («right_face» .entry)) (now
-            («left_face» .entry)) (now («right_edge» .entry)) (now («left_edge» .entry))) k node face) ⌝ }
+    requires { ⌜ Regular (edges (now «start_node») (now «end_node») (now «right_face») (now «left_face») (now «right_edge»)
+        (now «left_edge»)) ⌝ }
+    ensures { λ r. ⌜ r ≡ sideOf (leavingEdge (edges (now («start_node» .entry)) (now («end_node» .entry)) (now («right_face» .entry))
+        (now («left_face» .entry)) (now («right_edge» .entry)) (now («left_edge» .entry))) k node face) ⌝ }
 {
     let e = k as usize;
     if e == 0 {
@@ -104,10 +105,11 @@ pub(crate) fn side_after(
     left_edge: &[u32],
     s: usize,
 ) -> usize
-    requires { ⌜ Regular (edges (now «start_node») (now «end_node») (now «right_face») (now «left_face») (now «right_edge») (now «left_edge»)) ⌝ }
+    requires { ⌜ Regular (edges (now «start_node») (now «end_node») (now «right_face») (now «left_face») (now «right_edge»)
+        (now «left_edge»)) ⌝ }
     requires { ⌜ s ≤ 2 * length (now «start_node») ⌝ }
-    ensures { λ r. ⌜ r ≡ after (edges (now («start_node» .entry)) (now («end_node» .entry)) (now («right_face» .entry)) (now («left_face» .entry))
-            (now («right_edge» .entry)) (now («left_edge» .entry))) s ⌝ }
+    ensures { λ r. ⌜ r ≡ after (edges (now («start_node» .entry)) (now («end_node» .entry)) (now («right_face» .entry))
+        (now («left_face» .entry)) (now («right_edge» .entry)) (now («left_edge» .entry))) s ⌝ }
 {
     if s == 0 {
         return 0;

@@ -3,9 +3,10 @@
 // fields: the label, and numbers of four bytes. The numbers begin with the start and the length of twelve columns among them:
 // the ten of the tile, the length of the owner marks to lend, and for each walk its ring row and the length of the output.
 ghost use Prim.Native.Nat.{_≤_};
-use libc::STDOUT_FILENO;
+use casefile::say;
+use casefile::say_number;
+use casefile::say_refusal;
 use number::Order;
-use refusal::Refusal;
 use tile::Verdict;
 use tile::Walked;
 
@@ -41,21 +42,6 @@ const FIRST_EDGE: usize = 9;
 const SPACE: usize = 10;
 
 const WALKS: usize = 11;
-
-fn say(text: &[u8]) {
-    io::write_all(STDOUT_FILENO, text);
-}
-
-fn say_number(n: u64) {
-    io::print_decimal(STDOUT_FILENO, n);
-}
-
-fn say_refusal(bad: Refusal) {
-    say(b"refused ");
-    say_number(bad.number as u64);
-    say(b" at ");
-    say_number(bad.place as u64);
-}
 
 fn say_next(n: u32) {
     say(b" ");

@@ -1,9 +1,10 @@
 // Reads the tile of the directory that it is run in, and writes what document 01 says of it.
+use directory::Sizes;
 use libc::EINTR;
 use libc::STDOUT_FILENO;
-use report::MOST_BYTES;
-use report::Sizes;
-use teller::MOST_TEXT;
+use limits::MOST_BYTES;
+use report::FileName;
+use teller::TEXT_SPACE;
 ghost use Prim.Native.Nat.{_≤_, _+_, _-_};
 ghost use lib.ListN.{length};
 ghost use Rattle.tilecheck.specs.Reading.{Within};
@@ -79,10 +80,11 @@ fn read_open(fd: i32, buf: &mut [u8]) -> usize
 }
 
 // "A file that cannot be read counts as empty."
-fn read_file(path: &[u8], buf: &mut [u8]) -> usize
+fn read_file(file: FileName, buf: &mut [u8]) -> usize
     ensures { λ r. ⌜ r ≤ length (now (buf .entry)) + 1 ⌝ }
 {
-    let fd = os::open_read(path);
+    let name = report::name_of(file);
+    let fd = os::open_read(&name);
     if fd < 0 {
         return 0;
     }
@@ -103,8 +105,8 @@ fn lent<'a>(buf: &'a [u8], size: usize) -> &'a [u8] {
 fn read_node_index(cnd: &[u8], buf: &mut [u8]) -> usize
     ensures { λ r. ⌜ r ≤ length (now (buf .entry)) + 1 ⌝ }
 {
-    if report::shows_triplet(cnd) {
-        return read_file(b"cnx", buf);
+    if directory::files::shows_triplet(cnd) {
+        return read_file(FileName::Cnx, buf);
     }
     0
 }
@@ -119,7 +121,7 @@ fn write_text(
     cnd: &[u8],
     cnx: &[u8],
 ) {
-    let mut text = [0u8; MOST_TEXT];
+    let mut text = [0u8; TEXT_SPACE];
     let n = teller::tell_tile(sizes, edg, edx, fac, rng, cnd, cnx, &mut text);
     io::write_all(STDOUT_FILENO, &text[0..n]);
 }
@@ -131,11 +133,11 @@ fn main() {
     let mut rng = [0u8; MOST_BYTES];
     let mut cnd = [0u8; MOST_BYTES];
     let mut cnx = [0u8; MOST_BYTES];
-    let of_edg = read_file(b"edg", &mut edg);
-    let of_edx = read_file(b"edx", &mut edx);
-    let of_fac = read_file(b"fac", &mut fac);
-    let of_rng = read_file(b"rng", &mut rng);
-    let of_cnd = read_file(b"cnd", &mut cnd);
+    let of_edg = read_file(FileName::Edg, &mut edg);
+    let of_edx = read_file(FileName::Edx, &mut edx);
+    let of_fac = read_file(FileName::Fac, &mut fac);
+    let of_rng = read_file(FileName::Rng, &mut rng);
+    let of_cnd = read_file(FileName::Cnd, &mut cnd);
     let nodes = lent(&cnd, of_cnd);
     let of_cnx = read_node_index(nodes, &mut cnx);
     let sizes = Sizes {

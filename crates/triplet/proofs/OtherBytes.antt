@@ -29,7 +29,8 @@ row-stored : (o : Order) (row : List ℕ) (at : ℕ) (t : Ids) (n : ℕ) → wri
 row-stored o row at t n e =
     let f = written-exactly (length row) at t n .0 e in
     let m = length-encoded o t in
-    ap (λ (k : ℕ). take at row ++ (encoded o t ++ drop (at + k) row)) (sym m) ∙ sym (stored-run (encoded o t) row at (omega (arith, f .room, f .long)))
+    ap (λ (k : ℕ). take at row ++ (encoded o t ++ drop (at + k) row)) (sym m)
+    ∙ sym (stored-run (encoded o t) row at (omega (arith, f .room, f .long)))
 
 -- NO OTHER BYTE IS CHANGED, and none on a refusal
 pub no-other-byte : (o : Order) (row : List ℕ) (at : ℕ) (t : Ids) (r : Written) → writtenOf (length row) at t ≡ r → (j : ℕ)

@@ -51,7 +51,12 @@ look o s at w h = go (eqb w 0) (ltb (length s) (at + w)) (ltb largestPart (numbe
         seen (record { inside = omega arith; says = ap (number o s at) q ∙ number-nothing o s at; small = omega arith })
     go false true z e f g = unseen (λ v p. let l = ltb-true (length s) (at + w) f in omega (arith, p .inside))
     go false false true e f g = unseen (λ v p. let l = ltb-true largestPart (number o s at w) g in omega (arith, p .says, p .small))
-    go false false false e f g = seen (record { inside = ltb-false (length s) (at + w) f; says = refl; small = ltb-false largestPart (number o s at w) g })
+    go false false false e f g = seen (record {
+      inside = ltb-false (length s)
+          (at + w) f;
+      says = refl;
+      small = ltb-false largestPart (number o s at w) g;
+    })
 
 part-bad : (o : Order) (s : List ℕ) (at w : ℕ) → at ≤ length s → PartBad o s at w → partAt o s at w ≡ Bad
 part-bad o s at w h n = go (look o s at w h)
@@ -73,13 +78,15 @@ data Answer (o : Order) (s : List ℕ) : Triplet → Type 0 where
   bad : {p : ℕ} → BadAt o s p → Answer o s (badAt p)
 
 module _ (o : Order) (s : List ℕ) (b : TypeByte s) where
-  on-other : {a c : ℕ} → PartIs o s 1 (idWidth s) a → PartIs o s (tilePlace s) (tileWidth s) c → {r : Part} → Seen o s (otherPlace s) (otherWidth s) r
+  on-other : {a c : ℕ} → PartIs o s 1 (idWidth s) a → PartIs o s (tilePlace s) (tileWidth s) c → {r : Part}
+      → Seen o s (otherPlace s) (otherWidth s) r
       → Answer o s (onPart (otherPlace s) r (λ d. Is (ids a c d) (endPlace s)))
   on-other p q (seen r) = begins (record { type-byte = b; id = p; tile = q; other = r; long = refl })
   on-other p q (unseen r) = bad (other-bad b p q r)
 
   on-tile : {a : ℕ} → PartIs o s 1 (idWidth s) a → {r : Part} → Seen o s (tilePlace s) (tileWidth s) r
-      → Answer o s (onPart (tilePlace s) r (λ c. onPart (otherPlace s) (partAt o s (otherPlace s) (otherWidth s)) (λ d. Is (ids a c d) (endPlace s))))
+      → Answer o s (onPart (tilePlace s) r (λ c.
+      onPart (otherPlace s) (partAt o s (otherPlace s) (otherWidth s)) (λ d. Is (ids a c d) (endPlace s))))
   on-tile p (seen q) = on-other p q (look o s (otherPlace s) (otherWidth s) (q .inside))
   on-tile p (unseen q) = bad (tile-bad b p q)
 
@@ -127,7 +134,8 @@ pub read-exactly : (o : Order) (s : List ℕ) (t : Ids) (n : ℕ) → (tripletOf
 read-exactly o s t n = (begins-with o s t n (answer o s), is-read o s t n)
 
 -- IT IS REFUSED AT A PLACE EXACTLY WHEN the bytes are bad there, and with 11 always
-bad-there : (o : Order) (s : List ℕ) (q : Refusal) {r : Triplet} → Answer o s r → r ≡ Refused q → (q ≡ refusal badTriplet (q .place)) × BadAt o s (q .place)
+bad-there : (o : Order) (s : List ℕ) (q : Refusal) {r : Triplet} → Answer o s r → r ≡ Refused q
+    → (q ≡ refusal badTriplet (q .place)) × BadAt o s (q .place)
 bad-there o s q (begins h) e = let z : _≡_ {A = ℕ} 0 1 = cc in absurd (omega arith)
 bad-there o s q (bad {p} h) e =
     let x : refusal badTriplet p ≡ q = cc in
@@ -154,5 +162,6 @@ is-refused o s p (other-bad {a} {c} b x y h) =
       part-bad o s (otherPlace s) (otherWidth s) (y .inside) h,
     )
 
-pub refused-exactly : (o : Order) (s : List ℕ) (q : Refusal) → (tripletOf o s ≡ Refused q) ↔ ((q ≡ refusal badTriplet (q .place)) × BadAt o s (q .place))
+pub refused-exactly : (o : Order) (s : List ℕ) (q : Refusal)
+    → (tripletOf o s ≡ Refused q) ↔ ((q ≡ refusal badTriplet (q .place)) × BadAt o s (q .place))
 refused-exactly o s q = (bad-there o s q (answer o s), λ h. is-refused o s (q .place) (h .1) ∙ ap Refused (sym (h .0)))

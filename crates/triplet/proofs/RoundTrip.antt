@@ -19,7 +19,8 @@ use Rattle.triplet.proofs.ReadExactly.{read-exactly}
 use Rattle.triplet.proofs.WrittenExactly.{written-exactly}
 
 -- a part stands where its bytes stand
-part-stands : (o : Order) (xs ys : List ℕ) (at w v : ℕ) → length xs ≡ at → v ≤ largestPart → v < 256 ^ w → PartIs o (xs ++ (bytesOf o w v ++ ys)) at w v
+part-stands : (o : Order) (xs ys : List ℕ) (at w v : ℕ) → length xs ≡ at → v ≤ largestPart → v < 256 ^ w
+    → PartIs o (xs ++ (bytesOf o w v ++ ys)) at w v
 part-stands o xs ys at w v e m f =
     record { inside = simp (length-append, length-bytes) (omega arith); says = number-bytes o xs ys at w v e f; small = m }
 

@@ -54,7 +54,8 @@ module _ (len at : ℕ) (t : Ids) where
   unfolding writtenOf first located
   refuses-place e h = rw (e, lt-ltb len at h)
 
-  pub refuses-room : lowest (partTooLarge t) 3 ≡ 0 → at ≤ len → len < at + sizeOf t → Refused (refusal tooShort (at + sizeOf t)) ≡ writtenOf len at t
+  pub refuses-room : lowest (partTooLarge t) 3 ≡ 0 → at ≤ len → len < at + sizeOf t
+      → Refused (refusal tooShort (at + sizeOf t)) ≡ writtenOf len at t
   unfolding writtenOf first located
   refuses-room e h r = rw (e, le-ltb len at h, lt-ltb len (at + sizeOf t) r)
 

@@ -36,7 +36,8 @@ refused-unless q r n e =
 small-parts : (t : Ids) → (lowest (partTooLarge t) 3 ≡ 0) ↔ SmallParts t
 small-parts t = (
   λ e.
-      let h : (k : ℕ) → 0 < k → k ≤ 3 → partNumbered t k ≤ largestPart = λ k a b. ltb-false largestPart (partNumbered t k) (lowest-zero (partTooLarge t) 3 e .fails k a b) in
+      let h : (k : ℕ) → 0 < k → k ≤ 3 → partNumbered t k ≤ largestPart = λ k a b.
+      ltb-false largestPart (partNumbered t k) (lowest-zero (partTooLarge t) 3 e .fails k a b) in
       record { id = h 1 (omega arith) (omega arith); tile = h 2 (omega arith) (omega arith); other = h 3 (omega arith) (omega arith) },
   λ p. simp (le-ltb largestPart (t .id) (p .id), le-ltb largestPart (t .tile) (p .tile), le-ltb largestPart (t .other) (p .other)),
 )
@@ -50,7 +51,8 @@ written-exactly len at t n = (
       let a = passed-all (refusals len at t) (u .0) in
       let p = located-passes badTriplet (lowest (partTooLarge t) 3) (λ z. omega arith) (a .0) in
       let l = ltb-false len at (refused-if-passes (ltb len at) noSuchPlace at (λ z. omega arith) (a .1 .0)) in
-      let r = ltb-false len (at + sizeOf t) (refused-if-passes (ltb len (at + sizeOf t)) tooShort (at + sizeOf t) (λ z. omega arith) (a .1 .1 .0)) in
+      let r = ltb-false len (at + sizeOf t) (refused-if-passes (ltb len (at + sizeOf t)) tooShort (at + sizeOf t)
+      (λ z. omega arith) (a .1 .1 .0)) in
       record { parts = small-parts t .0 p; place = l; room = omega (arith, u .1, r); long = sym (u .1) },
   λ f. sym (writes len at t (small-parts t .1 (f .parts)) (omega (arith, f .long, f .room))) ∙ ap Bytes (sym (f .long)),
 )
@@ -74,7 +76,8 @@ data Tested (len at : ℕ) (t : Ids) : Refusal → Type 0 where
 
 module _ (len at : ℕ) (t : Ids) where
   -- the first part that is too large
-  lowest-part : (k : ℕ) → 0 < k → k ≤ 3 → largestPart < partNumbered t k → ((j : ℕ) → 0 < j → j < k → PartSmall t j) → LowestFailing 3 (PartSmall t) k
+  lowest-part : (k : ℕ) → 0 < k → k ≤ 3 → largestPart < partNumbered t k → ((j : ℕ) → 0 < j → j < k → PartSmall t j)
+      → LowestFailing 3 (PartSmall t) k
   lowest-part k a b large below = record { within = (a, b); fails = λ s. omega arith; below = below }
 
   one-below : t .id ≤ largestPart → (j : ℕ) → 0 < j → j < 2 → PartSmall t j
@@ -87,7 +90,8 @@ module _ (len at : ℕ) (t : Ids) where
   unfolding first located
   tested =
       bool-cases (ltb largestPart (t .id))
-      (λ a. rw a (refused (part-too-large (lowest-part 1 (omega arith) (omega arith) (ltb-true largestPart (t .id) a) (λ j x y. absurd (omega arith))))))
+      (λ a. rw a (refused (part-too-large (lowest-part 1 (omega arith) (omega arith) (ltb-true largestPart (t .id) a)
+      (λ j x y. absurd (omega arith))))))
       (λ a.
       let id = ltb-false largestPart (t .id) a in
       bool-cases (ltb largestPart (t .tile))
@@ -95,7 +99,8 @@ module _ (len at : ℕ) (t : Ids) where
       (λ b.
       let tile = ltb-false largestPart (t .tile) b in
       bool-cases (ltb largestPart (t .other))
-      (λ c. rw (a, b, c) (refused (part-too-large (lowest-part 3 (omega arith) (omega arith) (ltb-true largestPart (t .other) c) (two-below id tile)))))
+      (λ c. rw (a, b, c) (refused (part-too-large
+      (lowest-part 3 (omega arith) (omega arith) (ltb-true largestPart (t .other) c) (two-below id tile)))))
       (λ c.
       let small : SmallParts t = record { id = id; tile = tile; other = ltb-false largestPart (t .other) c } in
       bool-cases (ltb len at)

@@ -8,16 +8,10 @@ ghost use Rattle.laws.specs.Lowest.{lowest};
 ghost use Rattle.triplet.specs.Triplet.{widthOf, Width, partAt, partsOf, badAt, tripletOf};
 ghost use Rattle.triplet.specs.Written.{partTooLarge, codeFor, widthFor, typeByte, sizeOf, encoded, writtenOf, rowAfter};
 use number::Order;
+use refusal::BAD_TRIPLET;
+use refusal::NO_SUCH;
 use refusal::Refusal;
-
-// Refusal 11: a type byte or part bad, or cut short.
-const BAD_TRIPLET: u32 = 11;
-
-// Refusal 13: a place beyond the row.
-const NO_SUCH_PLACE: u32 = 13;
-
-// Refusal 14: the row is too short.
-const TOO_SHORT: u32 = 14;
+use refusal::TOO_SHORT;
 
 const LARGEST_PART: u32 = 2147483647;
 
@@ -259,7 +253,7 @@ pub fn write(row: &mut [u8], at: usize, ids: Ids, order: Order) -> Written
         return Written::Refused(refusal::refuse(BAD_TRIPLET, part));
     }
     if row.len() < at {
-        return Written::Refused(refusal::refuse(NO_SUCH_PLACE, at));
+        return Written::Refused(refusal::refuse(NO_SUCH, at));
     }
     let n = size_of(ids);
     if row.len() - at < n {

@@ -1,10 +1,10 @@
 // Runs the tiles of data/tiles1 and on as the program tilecheck would: for each its label and a line end, then the lines. A case is a
 // field of eight fields: the label, the six files edg, edx, fac, rng, cnd, cnx, and their sizes (eight bytes each).
 ghost use Prim.Native.Nat.{_<_};
+use directory::Sizes;
 use libc::STDOUT_FILENO;
 use number::Order;
-use report::Sizes;
-use teller::MOST_TEXT;
+use teller::TEXT_SPACE;
 
 // The size of one of the six files, from 0.
 fn size_of(sizes: &[u8], file: usize) -> usize
@@ -23,7 +23,7 @@ fn write_text(
     cnd: &[u8],
     cnx: &[u8],
 ) {
-    let mut text = [0u8; MOST_TEXT];
+    let mut text = [0u8; TEXT_SPACE];
     let n = teller::tell_tile(sizes, edg, edx, fac, rng, cnd, cnx, &mut text);
     io::write_all(STDOUT_FILENO, &text[0..n]);
 }

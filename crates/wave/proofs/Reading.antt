@@ -28,7 +28,8 @@ whole-value : (u b : ℕ) (ds : List ℕ) → (u * 10 + digit b) * 10 ^ length d
 whole-value u b ds = horner u (digit b) (10 ^ length ds) (number ds) ∙ ap (λ (x : ℕ). u * x + number (b ∷ ds)) (sym (pow-suc 10 (length ds)))
 
 -- one more digit after the point
-part-value : (n l d m : ℕ) → n + suc l ≤ mostPart → worthOf d n + m * 10 ^ (mostPart - (n + 1 + l)) ≡ (d * 10 ^ l + m) * 10 ^ (mostPart - (n + suc l))
+part-value : (n l d m : ℕ) → n + suc l ≤ mostPart
+    → worthOf d n + m * 10 ^ (mostPart - (n + 1 + l)) ≡ (d * 10 ^ l + m) * 10 ^ (mostPart - (n + suc l))
 part-value zero zero d m h = omega arith
 part-value zero (suc zero) d m h = omega arith
 part-value zero (suc (suc zero)) d m h = omega arith
@@ -106,7 +107,8 @@ module _ (v : ℕ) where
       (read-part (n + 1) (u + worthOf (digit b) n) ds t (d .1) (omega arith) (omega arith) s
       (omega (arith, part-value n (length ds) (digit b) (number ds) f)))
 
-  read-whole : (n u : ℕ) (ds part t : List ℕ) (p : ℕ) → Every IsDigit ds → 1 ≤ n + length ds → n + length ds ≤ mostWhole → Fraction part p → Every IsSpace t
+  read-whole : (n u : ℕ) (ds part t : List ℕ) (p : ℕ) → Every IsDigit ds → 1 ≤ n + length ds → n + length ds ≤ mostWhole
+      → Fraction part p → Every IsSpace t
       → v ≡ (u * 10 ^ length ds + number ds) * thousand + p → Reads (ds ++ (part ++ t)) (Whole n u)
   read-whole n u [] part t p d h f absent s e = whole-ends n u t (omega arith) s (omega arith)
   read-whole n u [] part t p d h f (present {ds} q) s e =
@@ -119,14 +121,16 @@ module _ (v : ℕ) where
       (read-whole (n + 1) (u * 10 + digit b) ds part t p (d .1) (omega arith) (omega arith) q s (omega (arith, whole-value u b ds)))
 
   pub read : (st : State) (t : List ℕ) → Left st t v → Reads t st
-  read (Whole n u) t w = rw (w .stands) (read-whole n u (w .ds) (w .part) (w .blanks) (w .partValue) (w .digits) (w .some) (w .few) (w .fraction) (w .spaces) (w .value))
+  read (Whole n u) t w = rw (w .stands) (read-whole n u (w .ds) (w .part) (w .blanks) (w .partValue) (w .digits)
+      (w .some) (w .few) (w .fraction) (w .spaces) (w .value))
   read (Part n u) t w = rw (w .stands) (read-part n u (w .ds) (w .blanks) (w .digits) (w .some) (w .few) (w .spaces) (w .value))
   read (Spaces u) t w = read-spaces u t (w .0) (w .1)
 
 -- ---- a text that is read to its end was left
 
 -- where a text goes on, the test held
-went : (P : State → Type 0) (b : Bool) (st : State) → RoomyStep (cond b (Go st) Stop) → onNext P (nextOf (cond b (Go st) Stop)) → (b ≡ true) × Roomy st × P st
+went : (P : State → Type 0) (b : Bool) (st : State) → RoomyStep (cond b (Go st) Stop)
+    → onNext P (nextOf (cond b (Go st) Stop)) → (b ≡ true) × Roomy st × P st
 went P true st r a = (refl, r, a)
 went P false st r a = absurd a
 
@@ -194,7 +198,8 @@ module _ (v : ℕ) where
   was-left [] st r a = over st r a
   was-left (b ∷ t) st r a = by (λ st₁. was-left t st₁) st (kindOf b) (seen b) r (roomy-step st (kindOf b) r (one-digit b)) a
     where
-      by : ((st₁ : State) → Roomy st₁ → Accepts machine (Final v) t st₁ → Left st₁ t v) → (st : State) (k : Kind) → Seen b k → Roomy st → RoomyStep (stepOf st k)
+      by : ((st₁ : State) → Roomy st₁ → Accepts machine (Final v) t st₁ → Left st₁ t v) → (st : State) (k : Kind)
+          → Seen b k → Roomy st → RoomyStep (stepOf st k)
           → onNext (Accepts machine (Final v) t) (nextOf (stepOf st k)) → Left st (b ∷ t) v
       by ih (Whole n u) k (seen-digit d) r s a =
           let g = went (Accepts machine (Final v) t) (ltb n mostWhole) (Whole (n + 1) (u * 10 + digit b)) s a in

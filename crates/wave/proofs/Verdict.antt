@@ -6,6 +6,7 @@ use mathlib.Core.Logic.{_⊎_, inl, inr, _↔_}
 use Prim.Native.Nat.{ℕ}
 use lib.Dec.{leb}
 use borrow.Author.Tests.{leb-true, leb-false, le-leb, lt-leb}
+use Rattle.laws.specs.Texts.{bytes}
 use Rattle.refusal.specs.declared.Refusal.{Refusal}
 use Rattle.wave.specs.Words.{IsHeight, NotAbove, Above}
 use Rattle.wave.specs.Height.{heightOf}
@@ -35,7 +36,8 @@ module _ (m l : List ℕ) where
       by : (x y : Height) → heightOf l ≡ x → heightOf m ≡ y → Judged m l (judged x y)
       by (height.Refused r) y e f = bad-limit e
       by (height.Thousandths most) (height.Refused r) e f = bad-measured (accepted-exactly l most .0 e) f
-      by (height.Thousandths most) (height.Thousandths seen) e f = compared most seen (accepted-exactly l most .0 e) (accepted-exactly m seen .0 f) (leb seen most) refl
+      by (height.Thousandths most) (height.Thousandths seen) e f = compared most seen (accepted-exactly l most .0 e)
+          (accepted-exactly m seen .0 f) (leb seen most) refl
 
   -- the readings decide
   from-readings : (most seen : ℕ) → IsHeight m seen → IsHeight l most → judgementOf m l ≡ cond (leb seen most) Passes TooHigh
@@ -67,20 +69,22 @@ module _ (m l : List ℕ) where
   unfolding judgementOf
   refused-exactly r = ((λ e. out r (subst (λ (j : Judgement). Judged m l j) e each)), back)
     where
-      out : (q : Refusal) → Judged m l (Refused q) → (heightOf l ≡ height.Refused q) ⊎ ((most : ℕ) × IsHeight l most × (heightOf m ≡ height.Refused q))
+      out : (q : Refusal) → Judged m l (Refused q)
+          → (heightOf l ≡ height.Refused q) ⊎ ((most : ℕ) × IsHeight l most × (heightOf m ≡ height.Refused q))
       out q (bad-limit e) = inl e
       out q (bad-measured {most = most} h e) = inr (most, h, e)
 
-      back : (heightOf l ≡ height.Refused r) ⊎ ((most : ℕ) × IsHeight l most × (heightOf m ≡ height.Refused r)) → judged (heightOf l) (heightOf m) ≡ Refused r
+      back : (heightOf l ≡ height.Refused r) ⊎ ((most : ℕ) × IsHeight l most × (heightOf m ≡ height.Refused r))
+          → judged (heightOf l) (heightOf m) ≡ Refused r
       back (inl e) = rw e
       back (inr w) = rw (accepted-exactly l (w .0) .1 (w .1), w .2)
 
 -- The sea of 10.0 under a limit of 2.5 does not pass, though as text `10.0` comes first.
 abbrev ten : List ℕ
-ten = 49 ∷ 48 ∷ 46 ∷ 48 ∷ []
+ten = bytes "10.0"
 
 abbrev two-and-a-half : List ℕ
-two-and-a-half = 50 ∷ 46 ∷ 53 ∷ []
+two-and-a-half = bytes "2.5"
 
 pub ten-is-too-high : judgementOf ten two-and-a-half ≡ TooHigh
 unfolding judgementOf heightOf

@@ -1,12 +1,13 @@
 // Wave heights as text: 1 to 6 digits, optionally a point and 1 to 3 digits, then only spaces; read as whole thousandths.
 ghost use mathlib.Core.Path.{_≡_};
+ghost use mathlib.Core.Bool.{cond};
 ghost use Prim.Native.Nat.{_≤_};
+ghost use lib.Dec.{leb};
 ghost use Rattle.wave.specs.Height.{kindOf, stepOf, finishOf, heightOf, Roomy, OneDigit, worthOf};
 ghost use Rattle.wave.specs.Judgement.{judgementOf};
+ghost use Rattle.wave.specs.declared.Judgement.the-variants.{Passes, TooHigh};
+use refusal::NO_WAVE_HEIGHT;
 use refusal::Refusal;
-
-// Refusal 16: the text is no wave height.
-const NO_WAVE_HEIGHT: u32 = 16;
 
 const POINT: u8 = b'.';
 
@@ -182,6 +183,17 @@ pub fn thousandths(text: &[u8]) -> Height
     finish(st, i)
 }
 
+// Two heights that were read: not above the limit passes.
+fn judge(most: u32, seen: u32) -> Judgement
+    ensures { λ r. ⌜ r ≡ cond (leb seen most) Passes TooHigh ⌝ }
+{
+    if seen <= most {
+        Judgement::Passes
+    } else {
+        Judgement::TooHigh
+    }
+}
+
 // Whether a measured height is not above the limit. Of two bad texts the limit's is refused.
 // Example: against the limit `2.5`, `10.0` is too high and `2.5` passes.
 pub fn passes(measured: &[u8], limit: &[u8]) -> Judgement
@@ -189,11 +201,7 @@ pub fn passes(measured: &[u8], limit: &[u8]) -> Judgement
 {
     match thousandths(limit) {
         Height::Thousandths(most) => match thousandths(measured) {
-            Height::Thousandths(seen) => if seen <= most {
-                Judgement::Passes
-            } else {
-                Judgement::TooHigh
-            },
+            Height::Thousandths(seen) => judge(most, seen),
             Height::Refused(bad) => Judgement::Refused(bad),
         },
         Height::Refused(bad) => Judgement::Refused(bad),

@@ -14,13 +14,12 @@ abbrev whole : tie.After-part-count → Coordinates
 whole b = strided binary64 (b .part-count .result * 8) (b .before .before .args .order) (b .before .before .args .bytes .now)
 
 returns : tie.Need-returns
-returns c = rw (c .refuse .ensures, ← c .before .before .part-count .ensures .0) (bounds-none (whole (c .before .before)) (c .before .if1 .taken))
+returns c = rw (c .refuse .ensures, ← c .before .before .part-count .ensures .0)
+    (bounds-none (whole (c .before .before)) (c .before .if1 .taken))
 
 further64-requires : tie.Need-further64-requires
 further64-requires c κs =
-    let at-x = c .before in
-    let at-read-point64 = at-x .before .before in
-    let at-if1 = at-read-point64 .before in
+    let at-x = c .before in let at-read-point64 = at-x .before .before in let at-if1 = at-read-point64 .before in
     let place5 = at-if1 .before in
     let w = whole (place5) in
     let p = at-x .x .given in
@@ -34,10 +33,8 @@ returns-2 c =
 
 returns-3 : tie.Need-returns-3
 returns-3 c =
-    let at-enum-told = c .before in
-    let at-read-point64 = at-enum-told .before .before in
-    let at-if1 = at-read-point64 .before in
-    let at-part-count = at-if1 .before in
+    let at-enum-told = c .before in let at-read-point64 = at-enum-told .before .before in
+    let at-if1 = at-read-point64 .before in let at-part-count = at-if1 .before in
     let w = whole (at-part-count) in
     let e = sym (at-read-point64 .read-point64 .ensures) ∙ ap point64 (at-enum-told .enum-told .given .1) in
     rw (c .refuse2 .ensures, ← at-part-count .part-count .ensures .0) (bounds-stop-first w e (count-some w (omega arith) (at-if1 .if1 .left)))
@@ -45,15 +42,5 @@ returns-3 c =
 pub find-bounds64-spec : {M : Type 1} → statement M
 find-bounds64-spec =
     tie.close
-    (tie.spec
-    (λ c κs. search needs)
-    (λ c. search needs)
-    (λ c κs. search needs)
-    returns
-    (λ c κs. search needs)
-    (λ c. search needs)
-    further64-requires
-    (λ c. search needs)
-    (λ c κs. search needs)
-    returns-2
-    returns-3)
+    (tie.spec (λ c κs. search needs) (λ c. search needs) (λ c κs. search needs) returns (λ c κs. search needs)
+    (λ c. search needs) further64-requires (λ c. search needs) (λ c κs. search needs) returns-2 returns-3)

@@ -14,39 +14,26 @@ float-from-bits-t14 c = finite-no-nan binary64 _ (c .if2 .taken)
 
 returns : tie.Need-returns
 returns c =
-    let at-if1 = c .before in
-    let at-read82 = at-if1 .before in
-    let at-read8 = at-read82 .before in
-    let start = at-read8 .before .before in
-    let a = start .args in
-    point-made binary64 (a .order) (a .bytes .now) (a .place) _ _ (at-read8 .read8 .ensures) (at-read82 .read82 .ensures) (at-if1 .if1 .taken) (c .if2 .taken)
+    let at-if1 = c .before in let at-read82 = at-if1 .before in let at-read8 = at-read82 .before in
+    let start = at-read8 .before .before in let a = start .args in
+    point-made binary64 (a .order) (a .bytes .now) (a .place) _ _ (at-read8 .read8 .ensures)
+    (at-read82 .read82 .ensures) (at-if1 .if1 .taken) (c .if2 .taken)
 
 returns-2 : tie.Need-returns-2
 returns-2 c =
-    let at-if1 = c .before in
-    let at-read82 = at-if1 .before in
-    let at-read8 = at-read82 .before in
-    let start = at-read8 .before .before in
-    let a = start .args in
-    point-not-y binary64 (a .order) (a .bytes .now) (a .place) _ _ (at-read8 .read8 .ensures) (at-read82 .read82 .ensures) (at-if1 .if1 .taken) (c .if2 .left)
+    let at-if1 = c .before in let at-read82 = at-if1 .before in let at-read8 = at-read82 .before in
+    let start = at-read8 .before .before in let a = start .args in
+    point-not-y binary64 (a .order) (a .bytes .now) (a .place) _ _ (at-read8 .read8 .ensures)
+    (at-read82 .read82 .ensures) (at-if1 .if1 .taken) (c .if2 .left)
 
 returns-3 : tie.Need-returns-3
 returns-3 c =
-    let at-read82 = c .before in
-    let at-read8 = at-read82 .before in
-    let start = at-read8 .before .before in
+    let at-read82 = c .before in let at-read8 = at-read82 .before in let start = at-read8 .before .before in
     let a = start .args in
     point-not-x binary64 (a .order) (a .bytes .now) (a .place) _ _ (at-read8 .read8 .ensures) (at-read82 .read82 .ensures) (c .if1 .left)
 
 pub read-point64-spec : {M : Type 1} → statement M
 read-point64-spec =
     tie.close
-    (tie.spec
-    (λ c κs. search needs)
-    (λ c. search needs)
-    (λ c κs. search needs)
-    float-from-bits-t13
-    float-from-bits-t14
-    returns
-    returns-2
-    returns-3)
+    (tie.spec (λ c κs. search needs) (λ c. search needs) (λ c κs. search needs) float-from-bits-t13 float-from-bits-t14
+    returns returns-2 returns-3)

@@ -5,16 +5,11 @@ use Rattle.directory.proofs.check_front.Tie as tie
 
 returns : tie.Need-returns
 returns c =
-    let at-check-tile = c .before .before in
-    let at-front-of10 = at-check-tile .before .before in
-    let at-front-of9 = at-front-of10 .before in
-    let at-front-of8 = at-front-of9 .before in
-    let at-front-of7 = at-front-of8 .before in
-    let at-front-of6 = at-front-of7 .before in
-    let at-front-of5 = at-front-of6 .before in
-    let at-front-of4 = at-front-of5 .before in
-    let at-front-of3 = at-front-of4 .before in
-    let at-front-of2 = at-front-of3 .before in
+    let at-check-tile = c .before .before in let at-front-of10 = at-check-tile .before .before in
+    let at-front-of9 = at-front-of10 .before in let at-front-of8 = at-front-of9 .before in
+    let at-front-of7 = at-front-of8 .before in let at-front-of6 = at-front-of7 .before in
+    let at-front-of5 = at-front-of6 .before in let at-front-of4 = at-front-of5 .before in
+    let at-front-of3 = at-front-of4 .before in let at-front-of2 = at-front-of3 .before in
     let at-front-of = at-front-of2 .before in (
       rw (
         at-front-of .front-of .ensures,
@@ -45,17 +40,6 @@ returns c =
 pub check-front-spec : {M : Type 1} → statement M
 check-front-spec =
     tie.close
-    (tie.spec
-    (λ c κs. search needs)
-    (λ c κs. search needs)
-    (λ c κs. search needs)
-    (λ c κs. search needs)
-    (λ c κs. search needs)
-    (λ c κs. search needs)
-    (λ c κs. search needs)
-    (λ c κs. search needs)
-    (λ c κs. search needs)
-    (λ c κs. search needs)
-    (λ c κs. search needs)
-    (λ c. search needs)
-    returns)
+    (tie.spec (λ c κs. search needs) (λ c κs. search needs) (λ c κs. search needs) (λ c κs. search needs)
+    (λ c κs. search needs) (λ c κs. search needs) (λ c κs. search needs) (λ c κs. search needs) (λ c κs. search needs)
+    (λ c κs. search needs) (λ c κs. search needs) (λ c. search needs) returns)

@@ -10,8 +10,7 @@ returns c = (simp (c .enum-told .given .1, ← c .before .before .before .before
 returns-2 : tie.Need-returns-2
 unfolding checkedAs
 returns-2 c =
-    let at-file-of-verdict = c .before in
-    let at-q = at-file-of-verdict .before .before in
+    let at-file-of-verdict = c .before in let at-q = at-file-of-verdict .before .before in
     let at-check = at-q .before .before .before .before in (
       simp (
         ← c .name .ensures,
@@ -25,13 +24,5 @@ returns-2 c =
 pub check-tile-spec : {M : Type 1} → statement M
 check-tile-spec =
     tie.close
-    (tie.spec
-    (λ c κs. search needs)
-    (λ c. search needs)
-    (λ c. search needs)
-    (λ c κs. search needs)
-    (λ c κs. search needs)
-    (λ c. search needs)
-    returns
-    (λ c. search needs)
-    returns-2)
+    (tie.spec (λ c κs. search needs) (λ c. search needs) (λ c. search needs) (λ c κs. search needs)
+    (λ c κs. search needs) (λ c. search needs) returns (λ c. search needs) returns-2)

@@ -7,11 +7,8 @@ use Rattle.directory.proofs.take_sizes.Tie as tie
 returns : tie.Need-returns
 unfolding sizesTaken
 returns c =
-    let at-larger5 = c .before in
-    let at-larger4 = at-larger5 .before in
-    let at-larger3 = at-larger4 .before in
-    let at-larger2 = at-larger3 .before in
-    let at-larger = at-larger2 .before in
+    let at-larger5 = c .before in let at-larger4 = at-larger5 .before in let at-larger3 = at-larger4 .before in
+    let at-larger2 = at-larger3 .before in let at-larger = at-larger2 .before in
     rw (
       at-larger .larger .ensures,
       at-larger2 .larger2 .ensures,
@@ -24,11 +21,5 @@ returns c =
 pub take-sizes-spec : {M : Type 1} → statement M
 take-sizes-spec =
     tie.close
-    (tie.spec
-    (λ c κs. search needs)
-    (λ c κs. search needs)
-    (λ c κs. search needs)
-    (λ c κs. search needs)
-    (λ c κs. search needs)
-    (λ c κs. search needs)
-    returns)
+    (tie.spec (λ c κs. search needs) (λ c κs. search needs) (λ c κs. search needs) (λ c κs. search needs)
+    (λ c κs. search needs) (λ c κs. search needs) returns)

@@ -1,5 +1,4 @@
 -- `directory::two_short` meets its contract.
-use borrow.Author.Needs.{needs}
 use borrow.Author.Tests.{lt-ltb, le-ltb}
 use Rattle.directory.proofs.two_short.Statement.{statement}
 use Rattle.directory.proofs.two_short.Tie as tie

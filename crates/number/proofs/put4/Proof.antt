@@ -20,13 +20,5 @@ returns c = simp (add-one, add-two, add-three)
 pub put4-spec : {M : Type 1} → statement M
 put4-spec =
     tie.close
-    (tie.spec
-    (λ c. search needs)
-    (λ c. search needs)
-    slice-write-s-2
-    (λ c. search needs)
-    slice-write-s-3
-    (λ c. search needs)
-    slice-write-s-4
-    (λ c. search needs)
-    returns)
+    (tie.spec (λ c. search needs) (λ c. search needs) slice-write-s-2 (λ c. search needs) slice-write-s-3
+    (λ c. search needs) slice-write-s-4 (λ c. search needs) returns)

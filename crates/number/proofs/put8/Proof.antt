@@ -32,21 +32,6 @@ returns c = simp (add-one, add-two, add-three, add-four, add-five, add-six, add-
 pub put8-spec : {M : Type 1} → statement M
 put8-spec =
     tie.close
-    (tie.spec
-    (λ c. search needs)
-    (λ c. search needs)
-    slice-write-s-2
-    (λ c. search needs)
-    slice-write-s-3
-    (λ c. search needs)
-    slice-write-s-4
-    (λ c. search needs)
-    slice-write-s-5
-    (λ c. search needs)
-    slice-write-s-6
-    (λ c. search needs)
-    slice-write-s-7
-    (λ c. search needs)
-    slice-write-s-8
-    (λ c. search needs)
-    returns)
+    (tie.spec (λ c. search needs) (λ c. search needs) slice-write-s-2 (λ c. search needs) slice-write-s-3
+    (λ c. search needs) slice-write-s-4 (λ c. search needs) slice-write-s-5 (λ c. search needs) slice-write-s-6
+    (λ c. search needs) slice-write-s-7 (λ c. search needs) slice-write-s-8 (λ c. search needs) returns)

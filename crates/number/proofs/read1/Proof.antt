@@ -1,22 +1,19 @@
-use Rattle.number.proofs.NumberLaws.{number-outside, read-one}
-use mathlib.Core.Path.{_∙_, sym}
-use native.Mathlib.Omega.{arith}
 use borrow.Author.Needs.{needs}
+use Rattle.number.proofs.NumberLaws.{number-outside, read-one}
+use mathlib.Core.Path.{sym}
+use native.Mathlib.Omega.{arith}
 use Rattle.number.proofs.read1.Statement.{statement}
 use Rattle.number.proofs.read1.Tie as tie
 
 returns : tie.Need-returns
-returns c = sym (number-outside ((c .before .args) .order) ((c .before .args) .s .now) ((c .before .args) .at) 1 (omega arith))
+returns c =
+    let start = c .before .before .before in
+    sym (number-outside (start .args .order) (start .args .s .now) (start .args .at) 1 (omega arith))
 
 returns-2 : tie.Need-returns-2
 returns-2 c =
-    let start = c .before .before in
-    sym (number-outside (start .args .order) (start .args .s .now) (start .args .at) 1 (omega arith))
-
-returns-3 : tie.Need-returns-3
-returns-3 c =
-    let start = c .before .before .before in
+    let start = c .before .before .before .before in
     sym (read-one (start .args .order) (start .args .s .now) (start .args .at) (omega arith))
 
 pub read1-spec : {M : Type 1} → statement M
-read1-spec = tie.close (tie.spec returns (λ c. search needs) returns-2 (λ c. search needs) returns-3)
+read1-spec = tie.close (tie.spec (λ c κs. search needs) returns (λ c. search needs) returns-2)

@@ -15,11 +15,5 @@ returns-2 c = simp (← c .before .body-size .ensures, ne-eqb _ _ (c .before .be
 pub count-rows-spec : {M : Type 1} → statement M
 count-rows-spec =
     tie.close
-    (tie.spec
-    (λ c κs. search needs)
-    (λ c. search needs)
-    returns
-    (λ c κs. search needs)
-    (λ c. search needs)
-    (λ c. search needs)
-    returns-2)
+    (tie.spec (λ c κs. search needs) (λ c. search needs) returns (λ c κs. search needs) (λ c. search needs)
+    (λ c. search needs) returns-2)

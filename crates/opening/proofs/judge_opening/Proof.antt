@@ -1,26 +1,19 @@
 use Rattle.opening.proofs.OpeningLaws.{open-head, open-rows, open-rest}
-use Rattle.refusal.specs.Order.{fine, first}
-use native.Mathlib.Omega.{arith}
-use mathlib.Core.Path.{_≡_, sym, ap, _∙_}
+use mathlib.Core.Path.{sym, _∙_}
 use borrow.Author.Needs.{needs}
 use Rattle.opening.proofs.judge_opening.Statement.{statement}
 use Rattle.opening.proofs.judge_opening.Tie as tie
 
 returns : tie.Need-returns
 returns c =
-    let at-if1 = c .before in
-    let at-lacks-head = at-if1 .before in
-    let start = at-lacks-head .before .before in
+    let at-if1 = c .before in let at-lacks-head = at-if1 .before in let start = at-lacks-head .before .before in
     (c .refuse) .ensures ∙ open-head (start .args .layout) (start .args .index .now) (start .args .size) (start .args .most) (sym
     (at-lacks-head .lacks-head .ensures) ∙ at-if1 .if1 .taken)
 
 returns-2 : tie.Need-returns-2
 returns-2 c =
-    let at-if2 = c .before in
-    let at-most-taken = at-if2 .before in
-    let at-count-rows = at-most-taken .before in
-    let at-if1 = at-count-rows .before in
-    let at-lacks-head = at-if1 .before in
+    let at-if2 = c .before in let at-most-taken = at-if2 .before in let at-count-rows = at-most-taken .before in
+    let at-if1 = at-count-rows .before in let at-lacks-head = at-if1 .before in
     let start = at-lacks-head .before .before in
     (c .refuse2) .ensures ∙ open-rows (start .args .layout) (start .args .index .now) (start .args .size) (start .args .most) (sym
     (at-lacks-head .lacks-head .ensures) ∙ at-if1 .if1 .left) (at-count-rows .count-rows .result) (at-count-rows .count-rows .ensures) (rw
@@ -28,15 +21,12 @@ returns-2 c =
 
 returns-3 : tie.Need-returns-3
 returns-3 c =
-    let at-no-refusal = c .before in
-    let at-judge-body = at-no-refusal .before in
-    let at-if2 = at-judge-body .before in
-    let at-most-taken = at-if2 .before in
-    let at-count-rows = at-most-taken .before in
-    let at-if1 = at-count-rows .before in
-    let at-lacks-head = at-if1 .before in
+    let at-no-refusal = c .before in let at-judge-body = at-no-refusal .before in let at-if2 = at-judge-body .before in
+    let at-most-taken = at-if2 .before in let at-count-rows = at-most-taken .before in
+    let at-if1 = at-count-rows .before in let at-lacks-head = at-if1 .before in
     let start = at-lacks-head .before .before in
-    rw (c .first-of-two .ensures, at-no-refusal .no-refusal .ensures) (open-rest (start .args .layout) (start .args .index .now) (start .args .size)
+    rw (c .first-of-two .ensures, at-no-refusal .no-refusal .ensures)
+    (open-rest (start .args .layout) (start .args .index .now) (start .args .size)
     (start .args .most) (sym (at-lacks-head .lacks-head .ensures) ∙ at-if1 .if1 .left) (at-count-rows .count-rows .result)
     (at-count-rows .count-rows .ensures) (rw (at-most-taken .most-taken .ensures) at (at-if2 .if2 .left)) (at-judge-body .judge-body .result)
     (at-judge-body .judge-body .ensures))
@@ -44,15 +34,5 @@ returns-3 c =
 pub judge-opening-spec : {M : Type 1} → statement M
 judge-opening-spec =
     tie.close
-    (tie.spec
-    (λ c κs. search needs)
-    (λ c κs. search needs)
-    returns
-    (λ c κs. search needs)
-    (λ c κs. search needs)
-    (λ c κs. search needs)
-    returns-2
-    (λ c κs. search needs)
-    (λ c κs. search needs)
-    (λ c κs. search needs)
-    returns-3)
+    (tie.spec (λ c κs. search needs) (λ c κs. search needs) returns (λ c κs. search needs) (λ c κs. search needs)
+    (λ c κs. search needs) returns-2 (λ c κs. search needs) (λ c κs. search needs) (λ c κs. search needs) returns-3)

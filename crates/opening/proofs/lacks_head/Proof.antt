@@ -1,4 +1,3 @@
-use borrow.Author.Needs.{needs}
 use borrow.Author.Tests.{eq-eqb, ne-eqb}
 use Rattle.opening.proofs.lacks_head.Statement.{statement}
 use Rattle.opening.proofs.lacks_head.Tie as tie

@@ -34,7 +34,8 @@ use Rattle.reader.proofs.open_at as open-at
 use Rattle.reader.proofs.open_at.Statement as stated
 use Rattle.reader.proofs.open_at.Code as code
 
-module _ {M : Type 1} (𝓤 : URA M) (H : Heap 𝓤) (A : Atoms 𝓤) (W : Given 𝓤 H A) (mem : Memory → SProp 𝓤) (run : Routine → Fun 𝓤) (C : Calls 𝓤 H) (Λ : Loops 𝓤 H) (κ : Lft) (q : Share) (s : RefT (List ℕ)) (n : ℕ) where
+module _ {M : Type 1} (𝓤 : URA M) (H : Heap 𝓤) (A : Atoms 𝓤) (W : Given 𝓤 H A) (mem : Memory → SProp 𝓤) (run : Routine → Fun 𝓤)
+    (C : Calls 𝓤 H) (Λ : Loops 𝓤 H) (κ : Lft) (q : Share) (s : RefT (List ℕ)) (n : ℕ) where
   abbrev α : NamedLft
   α = namedLft 1 0 tt (κ, tt)
 
@@ -42,17 +43,27 @@ module _ {M : Type 1} (𝓤 : URA M) (H : Heap 𝓤) (A : Atoms 𝓤) (W : Given
   Tok = alive 𝓤 H A open-at.signature (κ, tt) (q, tt)
 
   walk : Typed (ShrSlice (named 0) κ u8 .mir) (slice-value s ∷ []) → n < 2 ^ 64
-      → ent 𝓤 (entry 𝓤 H A W number (yes, tt) number-stays (plain reader-type) (open-at.clauses 𝓤 H A mem run) κ q s (n, tt) (vint w64 n ∷ [], tt)) (WpFn 𝓤 H C Λ code.function (slice-value s ∷ vint w64 n ∷ []) (post 𝓤 H A W number (yes, tt) number-stays (plain reader-type) (open-at.clauses 𝓤 H A mem run) κ q s (n, tt) (vint w64 n ∷ [], tt) tt))
+      → ent 𝓤 (entry 𝓤 H A W number (yes, tt) number-stays (plain reader-type) (open-at.clauses 𝓤 H A mem run) κ q s (n, tt)
+      (vint w64 n ∷ [], tt)) (WpFn 𝓤 H C Λ code.function (slice-value s ∷ vint w64 n ∷ [])
+      (post 𝓤 H A W number (yes, tt) number-stays (plain reader-type) (open-at.clauses 𝓤 H A mem run) κ q s (n, tt)
+      (vint w64 n ∷ [], tt) tt))
   walk p ok =
-      qed W (raw Tok ∷ ‵ (owns (ShrSlice (named 0) κ u8 ∷ usize ∷ []) (s, (n, tt)) (slice-value s ∷ [], (vint w64 n ∷ [], tt))) ∷ []) ∵ enter ! C Λ code.function (slice-value s ∷ vint w64 n ∷ []) _ $
-      alloc1 ! (λ l₀. alloc1 ! (λ l₁. alloc1 ! (λ l₂. alloc0 ! $ params1 ! $ pass1 ! (init ! 2 refl (p .0)) $ pass1 ! (init ! 0 refl (tt, record { fits = ok })) $ pass0 ! $
-      assigns ! (agg ! (and-then ! (load ! (from ! (stop !)) (look ! 2 refl)) (and-then ! (load ! (from ! (stop !)) (look ! 0 refl)) (no-more !)))) (from ! (stop !)) (init ! 4 refl (tt, (p .0 .1, (record { fits = ok }, tt)))) $
-      returns ! (look ! 4 refl) $ forget ! 0 refl $ forget ! 2 refl $ forget ! 4 refl $ move ! (4 ∷ 5 ∷ []) $ free1 ! $ move ! (2 ∷ 3 ∷ []) $ free1 ! $ free1 ! $ free0 ! $
+      qed W (raw Tok ∷ ‵ (owns (ShrSlice (named 0) κ u8 ∷ usize ∷ []) (s, (n, tt)) (slice-value s ∷ [], (vint w64 n ∷ [], tt)))
+      ∷ []) ∵ enter ! C Λ code.function (slice-value s ∷ vint w64 n ∷ []) _ $
+      alloc1 ! (λ l₀. alloc1 ! (λ l₁. alloc1 ! (λ l₂. alloc0 ! $ params1 ! $ pass1 ! (init ! 2 refl (p .0)) $
+      pass1 ! (init ! 0 refl (tt, record { fits = ok })) $ pass0 ! $
+      assigns ! (agg ! (and-then ! (load ! (from ! (stop !)) (look ! 2 refl))
+      (and-then ! (load ! (from ! (stop !)) (look ! 0 refl)) (no-more !)))) (from ! (stop !))
+      (init ! 4 refl (tt, (p .0 .1, (record { fits = ok }, tt)))) $
+      returns ! (look ! 4 refl) $ forget ! 0 refl $ forget ! 2 refl $ forget ! 4 refl $ move ! (4 ∷ 5 ∷ []) $ free1 ! $
+      move ! (2 ∷ 3 ∷ []) $ free1 ! $ free1 ! $ free0 ! $
       -- [the token; what the parameters own]
-      move ! (1 ∷ []) $ fsplit ! $ use1 W (‵ (OwnSlice κ s) ⊛ ‵ (OwnSlice κ s)) (slice-twice 𝓤 H A W κ s) $ split ! $ use1 W (‵ (Own 𝓤 H A W α (readerAt s n))) (made 𝓤 H A W α s n ok) $
+      move ! (1 ∷ []) $ fsplit ! $ use1 W (‵ (OwnSlice κ s) ⊛ ‵ (OwnSlice κ s)) (slice-twice 𝓤 H A W κ s) $ split ! $
+      use1 W (‵ (Own 𝓤 H A W α (readerAt s n))) (made 𝓤 H A W α s n ok) $
       -- [what the result owns; what s owns; the number's; the token]
       move ! (0 ∷ 3 ∷ 1 ∷ 2 ∷ []) $
-      by ! (leaves 𝓤 H A W number (yes, tt) number-stays (plain reader-type) (open-at.clauses 𝓤 H A mem run) κ q s (n, tt) (vint w64 n ∷ [], tt) tt (value-of (readerAt s n)) (readerAt s n) (tt, tt) (tt, tt) (readerAt s n ≡ readerAt s n) refl (id⊢ 𝓤 _)))))
+      by ! (leaves 𝓤 H A W number (yes, tt) number-stays (plain reader-type) (open-at.clauses 𝓤 H A mem run) κ q s (n, tt)
+      (vint w64 n ∷ [], tt) tt (value-of (readerAt s n)) (readerAt s n) (tt, tt) (tt, tt) (readerAt s n ≡ readerAt s n) refl (id⊢ 𝓤 _)))))
 
 pub open-at-spec : {M : Type 1} → stated.statement M
 unfolding code.routine tablesOf

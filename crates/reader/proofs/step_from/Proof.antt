@@ -64,8 +64,11 @@ use Rattle.reader.proofs.step_from.Code as code
 abbrev Answer : Slot 1
 Answer = plain (λ _. K.the-row)
 
-module _ {M : Type 1} (𝓤 : URA M) (H : Heap 𝓤) (A : Atoms 𝓤) (W : Given 𝓤 H A) (mem : Memory → SProp 𝓤) (run : Routine → Fun 𝓤) (C : Calls 𝓤 H) (Λ : Loops 𝓤 H) (fm : FmC 𝓤 H (W .laws) C)
-    (known-open : Triple 𝓤 (C #reader·open-at) (Of 𝓤 H A open-at.ended (open-at.clauses 𝓤 H A mem run))) (known-step : Triple 𝓤 (C #reader·step) (Of 𝓤 H A step.ended (step.clauses 𝓤 H A mem run))) (κ : Lft) (q : Share) (s : RefT (List ℕ)) (n : ℕ) where
+module _ {M : Type 1} (𝓤 : URA M) (H : Heap 𝓤) (A : Atoms 𝓤) (W : Given 𝓤 H A) (mem : Memory → SProp 𝓤) (run : Routine → Fun 𝓤)
+    (C : Calls 𝓤 H) (Λ : Loops 𝓤 H) (fm : FmC 𝓤 H (W .laws) C)
+    (known-open : Triple 𝓤 (C #reader·open-at) (Of 𝓤 H A open-at.ended (open-at.clauses 𝓤 H A mem run)))
+    (known-step : Triple 𝓤 (C #reader·step) (Of 𝓤 H A step.ended (step.clauses 𝓤 H A mem run))) (κ : Lft) (q : Share)
+    (s : RefT (List ℕ)) (n : ℕ) where
   -- the reader's type, as `step` has it
   abbrev α : NamedLft
   α = record { mir = named 1; lft = κ }
@@ -87,13 +90,23 @@ module _ {M : Type 1} (𝓤 : URA M) (H : Heap 𝓤) (A : Atoms 𝓤) (W : Given
   whole-of w h = vstruct (vcons w (vcons (vint w64 (h .at)) vnil))
 
   walk : Typed (ShrSlice (named 0) κ u8 .mir) (slice-value s ∷ []) → n < 2 ^ 64
-      → ent 𝓤 (entry 𝓤 H A W number (yes, tt) number-stays Answer (step-from.clauses 𝓤 H A mem run) κ q s (n, tt) (vint w64 n ∷ [], tt)) (WpFn 𝓤 H C Λ code.function (slice-value s ∷ vint w64 n ∷ []) (post 𝓤 H A W number (yes, tt) number-stays Answer (step-from.clauses 𝓤 H A mem run) κ q s (n, tt) (vint w64 n ∷ [], tt) tt))
+      → ent 𝓤 (entry 𝓤 H A W number (yes, tt) number-stays Answer (step-from.clauses 𝓤 H A mem run) κ q s (n, tt)
+      (vint w64 n ∷ [], tt)) (WpFn 𝓤 H C Λ code.function (slice-value s ∷ vint w64 n ∷ [])
+      (post 𝓤 H A W number (yes, tt) number-stays Answer (step-from.clauses 𝓤 H A mem run) κ q s (n, tt) (vint w64 n ∷ [], tt) tt))
   walk p ok =
-      qed W (raw Tok ∷ ‵ (owns (ShrSlice (named 0) κ u8 ∷ usize ∷ []) (s, (n, tt)) (slice-value s ∷ [], (vint w64 n ∷ [], tt))) ∷ []) ∵ enter ! C Λ code.function (slice-value s ∷ vint w64 n ∷ []) _ $
-      alloc1 ! (λ l₀. alloc1 ! (λ l₁. alloc1 ! (λ l₂. alloc1 ! (λ l₃. alloc1 ! (λ l₄. alloc1 ! (λ l₅. alloc1 ! (λ l₆. alloc1 ! (λ l₇. alloc0 ! $ params1 ! $ pass1 ! (init ! 12 refl (p .0)) $ pass1 ! (init ! 10 refl (tt, record { fits = ok })) $ pass0 ! $
-      move ! (17 ∷ 16 ∷ []) $ fsplit ! $ move ! (0 ∷ 2 ∷ []) $ use2 W (raw (Of 𝓤 H A open-at.ended (open-at.clauses 𝓤 H A mem run) .pre to-open) ⊛ ‵ (OwnSlice κ s)) (lends-number 𝓤 H A W κ s n Tok ok) $ split ! $
+      qed W (raw Tok ∷ ‵ (owns (ShrSlice (named 0) κ u8 ∷ usize ∷ []) (s, (n, tt)) (slice-value s ∷ [], (vint w64 n ∷ [], tt)))
+      ∷ []) ∵ enter ! C Λ code.function (slice-value s ∷ vint w64 n ∷ []) _ $
+      alloc1 ! (λ l₀. alloc1 ! (λ l₁. alloc1 ! (λ l₂. alloc1 !
+      (λ l₃. alloc1 ! (λ l₄. alloc1 ! (λ l₅. alloc1 ! (λ l₆.
+      alloc1 ! (λ l₇. alloc0 ! $ params1 ! $ pass1 ! (init ! 12 refl (p .0)) $
+      pass1 ! (init ! 10 refl (tt, record { fits = ok })) $ pass0 ! $
+      move ! (17 ∷ 16 ∷ []) $ fsplit ! $ move ! (0 ∷ 2 ∷ []) $
+      use2 W (raw (Of 𝓤 H A open-at.ended (open-at.clauses 𝓤 H A mem run) .pre to-open) ⊛ ‵ (OwnSlice κ s))
+      (lends-number 𝓤 H A W κ s n Tok ok) $ split ! $
       -- [what the callee asks; what s owns; the number's; _7; …; _6; …; _5; …; _4; …; _3; …; _2; …; _1; …; _0; …]
-      answers ! fm open-at.ended (open-at.clauses 𝓤 H A mem run) known-open to-open (λ (r : Reader). r ≡ readerAt s n) (λ r e. id⊢ 𝓤 _) (and-then ! (load ! (from ! (stop !)) (look ! 15 refl)) (and-then ! (load ! (from ! (stop !)) (look ! 13 refl)) (no-more !))) (λ u r e₀ is.
+      answers ! fm open-at.ended (open-at.clauses 𝓤 H A mem run) known-open to-open (λ (r : Reader). r ≡ readerAt s n)
+      (λ r e. id⊢ 𝓤 _) (and-then ! (load ! (from ! (stop !)) (look ! 15 refl))
+      (and-then ! (load ! (from ! (stop !)) (look ! 13 refl)) (no-more !))) (λ u r e₀ is.
       -- [what the reader owns; the token; what s owns; the number's; _7; …; _6; …; _5; …; _4; …; _3; …; _2; …; _1; …; _0; …]
       land ! (from ! (stop !)) (init ! 8 refl (typed-local 𝓤 H A W κ r u is .0)) $
       assigns ! (of-opd ! (load ! (from ! (stop !)) (look ! 8 refl))) (from ! (stop !)) (init ! 12 refl (typed-local 𝓤 H A W κ r u is .0)) $
@@ -101,20 +114,32 @@ module _ {M : Type 1} (𝓤 : URA M) (H : Heap 𝓤) (A : Atoms 𝓤) (W : Given
       -- the reader in _3 is lent for the step
       move ! (0 ∷ 12 ∷ []) $ use2 W (‵ (Lies 𝓤 H A W κ q l₃ r)) (lies-in 𝓤 H A W κ q l₃ r u) $
       -- [the reader in memory; the token; what s owns; the number's; _7; …; _6; …; _5; …; _4; …; _3's end; _2; …; _1; …; _0; …]
-      steps-local 𝓤 H A W mem run κ q l₃ r ! fm known-step (λ ν γ. and-then ! (load ! (from ! (stop !)) (look ! 7 refl)) (no-more !)) (λ w t h e is₁.
+      steps-local 𝓤 H A W mem run κ q l₃ r ! fm known-step
+      (λ ν γ. and-then ! (load ! (from ! (stop !)) (look ! 7 refl)) (no-more !)) (λ w t h e is₁.
       land ! (from ! (stop !)) (init ! 10 refl (answer-typed 𝓤 H A W t w is₁)) $
       -- the reader has come back, and its place is read
       use1 W (‵ (fat fullShare (T′.mir erased) l₃ 0 (value-of h)) ⊛ ‵ (R .own h (value-of h ∷ []))) (lies-out 𝓤 H A W κ q l₃ h) $ split ! $
       move ! (1 ∷ []) $ peeks ! R (Is R) (shows 𝓤 H A R) h (value-of h ∷ []) (λ was.
       -- [what the reader owns; _3; the token; what s owns; the number's; _7; …; _6; …; _5; …; _4; …; _3's end; _2; …; _1; …; _0; …]
-      assigns ! (of-opd ! (load ! (from ! (fld ! refl (stop !))) (look-in ! 1 (sub ! 1 refl (whole !))))) (from ! (stop !)) (init ! 5 refl (tt, typed 𝓤 H A W α h was .1 .1 .0)) $
-      assigns ! (agg ! (and-then ! (load ! (from ! (stop !)) (look ! 11 refl)) (and-then ! (load ! (from ! (stop !)) (look ! 5 refl)) (no-more !)))) (from ! (stop !)) (init ! 18 refl (both-hold (hasTy S′.mir w) (answer-typed 𝓤 H A W t w is₁ .0), (answer-typed 𝓤 H A W t w is₁ .1, (typed 𝓤 H A W α h was .1 .1 .0, tt)))) $
+      assigns ! (of-opd ! (load ! (from ! (fld ! refl (stop !))) (look-in ! 1 (sub ! 1 refl (whole !))))) (from ! (stop !))
+      (init ! 5 refl (tt, typed 𝓤 H A W α h was .1 .1 .0)) $
+      assigns ! (agg ! (and-then ! (load ! (from ! (stop !)) (look ! 11 refl))
+      (and-then ! (load ! (from ! (stop !)) (look ! 5 refl)) (no-more !)))) (from ! (stop !))
+      (init ! 18 refl (
+        both-hold (hasTy S′.mir w) (answer-typed 𝓤 H A W t w is₁ .0),
+        (answer-typed 𝓤 H A W t w is₁ .1, (typed 𝓤 H A W α h was .1 .1 .0, tt)),
+      )) $
       move ! (2 ∷ 3 ∷ 4 ∷ 1 ∷ 0 ∷ []) $
       -- [the token; what s owns; the number's; _3; what the reader owns; _7; …; _6; …; _5; …; _4; …; _3's end; _2; …; _1; …; _0; …]
-      returns ! (look ! 18 refl) $ forget ! 3 refl $ forget ! 5 refl $ forget ! 7 refl $ forget ! 9 refl $ forget ! 11 refl $ forget ! 14 refl $ forget ! 16 refl $ forget ! 18 refl $
-      move ! (18 ∷ 19 ∷ []) $ free1 ! $ move ! (16 ∷ 17 ∷ []) $ free1 ! $ move ! (14 ∷ 15 ∷ []) $ free1 ! $ move ! (3 ∷ 13 ∷ []) $ free1 ! $ move ! (10 ∷ 11 ∷ []) $ free1 ! $ move ! (8 ∷ 9 ∷ []) $ free1 ! $ move ! (6 ∷ 7 ∷ []) $ free1 ! $ move ! (4 ∷ 5 ∷ []) $ free1 ! $ free0 ! $ keep ! (0 ∷ 1 ∷ 2 ∷ []) $
-      owned ! K.the-row (Is K.the-row) (LL.makes K.the-type K′.the-plain 𝓤 H A) (result t h) (whole-of w h ∷ []) ((w ∷ [], (vint w64 (h .at) ∷ [], tt)), (refl, (is₁, ((refl, typed 𝓤 H A W α h was .1 .1 .0 .fits), tt)))) $
-      by ! (leaves 𝓤 H A W number (yes, tt) number-stays Answer (step-from.clauses 𝓤 H A mem run) κ q s (n, tt) (vint w64 n ∷ [], tt) tt (whole-of w h) (result t h) (tt, tt) (tt, tt) (result t h ≡ movedFrom (now s) n)
+      returns ! (look ! 18 refl) $ forget ! 3 refl $ forget ! 5 refl $ forget ! 7 refl $ forget ! 9 refl $ forget ! 11 refl $
+      forget ! 14 refl $ forget ! 16 refl $ forget ! 18 refl $
+      move ! (18 ∷ 19 ∷ []) $ free1 ! $ move ! (16 ∷ 17 ∷ []) $ free1 ! $ move ! (14 ∷ 15 ∷ []) $ free1 ! $ move ! (3 ∷ 13 ∷ []) $
+      free1 ! $ move ! (10 ∷ 11 ∷ []) $ free1 ! $ move ! (8 ∷ 9 ∷ []) $ free1 ! $ move ! (6 ∷ 7 ∷ []) $ free1 ! $
+      move ! (4 ∷ 5 ∷ []) $ free1 ! $ free0 ! $ keep ! (0 ∷ 1 ∷ 2 ∷ []) $
+      owned ! K.the-row (Is K.the-row) (LL.makes K.the-type K′.the-plain 𝓤 H A) (result t h) (whole-of w h ∷ [])
+      ((w ∷ [], (vint w64 (h .at) ∷ [], tt)), (refl, (is₁, ((refl, typed 𝓤 H A W α h was .1 .1 .0 .fits), tt)))) $
+      by ! (leaves 𝓤 H A W number (yes, tt) number-stays Answer (step-from.clauses 𝓤 H A mem run) κ q s (n, tt)
+      (vint w64 n ∷ [], tt) tt (whole-of w h) (result t h) (tt, tt) (tt, tt) (result t h ≡ movedFrom (now s) n)
       (λ i. result ((e .0 ∙ ap gives e₀) i) ((e .1 ∙ ap moved e₀) i)) (id⊢ 𝓤 _)))))))))))))
 
 pub step-from-spec : {M : Type 1} → stated.statement M
@@ -125,5 +150,7 @@ step-from-spec 𝓤 H 𝓜 𝓖 𝓡 =
     (tables 𝓤 H 𝓜 𝓡 code.env .C) (tables 𝓤 H 𝓜 𝓡 code.env .Λ) #reader·step-from code.function (code.unfolded 𝓤 H 𝓜 𝓡)
     (of-slice-number 𝓤 H (𝓖 .A) (givenOf 𝓤 H 𝓜 𝓖) Answer (step-from.clauses 𝓤 H (𝓖 .A) (𝓜 .mem) (𝓡 .run)) code.function 𝓣
     (λ κ q s n g. walk 𝓤 H (𝓖 .A) (givenOf 𝓤 H 𝓜 𝓖) (𝓜 .mem) (𝓡 .run) (𝓣 .C) (𝓣 .Λ) (fmOf 𝓤 H (givenOf 𝓤 H 𝓜 𝓖 .laws) 𝓣)
-    (cited 𝓤 H (Of 𝓤 H (𝓖 .A) open-at.ended (open-at.clauses 𝓤 H (𝓖 .A) (𝓜 .mem) (𝓡 .run))) 𝓜 𝓡 code.env #reader·open-at open-def.routine code.calls-reader·open-at (open-thm.met 𝓤 H 𝓜 𝓖 𝓡))
-    (cited 𝓤 H (Of 𝓤 H (𝓖 .A) step.ended (step.clauses 𝓤 H (𝓖 .A) (𝓜 .mem) (𝓡 .run))) 𝓜 𝓡 code.env #reader·step step-def.routine code.calls-reader·Reader·step (step-thm.met 𝓤 H 𝓜 𝓖 𝓡)) κ q s n))
+    (cited 𝓤 H (Of 𝓤 H (𝓖 .A) open-at.ended (open-at.clauses 𝓤 H (𝓖 .A) (𝓜 .mem)
+    (𝓡 .run))) 𝓜 𝓡 code.env #reader·open-at open-def.routine code.calls-reader·open-at (open-thm.met 𝓤 H 𝓜 𝓖 𝓡))
+    (cited 𝓤 H (Of 𝓤 H (𝓖 .A) step.ended (step.clauses 𝓤 H (𝓖 .A) (𝓜 .mem)
+    (𝓡 .run))) 𝓜 𝓡 code.env #reader·step step-def.routine code.calls-reader·Reader·step (step-thm.met 𝓤 H 𝓜 𝓖 𝓡)) κ q s n))

@@ -2,7 +2,7 @@ use native.Mathlib.Omega.{arith}
 use Prim.Native.Nat.{pred, _-_}
 use mathlib.Core.Path.{_≡_}
 use borrow.Author.Needs.{needs}
-use Rattle.table.proofs.FoundLaws.{column-there}
+use Rattle.table.proofs.RowLaws.{column-there}
 use Rattle.rectangle.proofs.kind_at.Statement.{statement}
 use Rattle.rectangle.proofs.kind_at.Tie as tie
 

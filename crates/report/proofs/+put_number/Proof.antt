@@ -101,7 +101,8 @@ put-number-put-byte-requires-2 : (t : ℕ) → put-number-lts.Need-put-byte-requ
 put-number-put-byte-requires-2 t c κs =
     let s = c .before .before .before .before .before .before .before .before in
     let p = c .before .before .before .before .put-number in
-    last-inside (s .args .at) (s .args .n) (p .result) (length (p .last .0)) (c .before .before .before .before .before .before .if1 .left) (omega
+    last-inside (s .args .at) (s .args .n) (p .result) (length (p .last .0))
+    (c .before .before .before .before .before .before .if1 .left) (omega
     (arith, s .fits .n)) (p .ensures .0 .0) (omega (arith, s .pre .1, p .kept .0))
 
 put-number-same-length-2 : (t : ℕ) → put-number-lts.Need-same-length-2 (
@@ -128,7 +129,8 @@ put-number-returns-2 t c =
     last-digit (s .args .out .now) (p .last .0) (c .before .before .put-byte2 .last .0) (s .args .at) (s .args .n) (p .result)
     (c .before .before .before .digit-of2 .result) (c .before .before .put-byte2 .result)
     (c .before .before .before .before .before .before .before .before .before .if1 .left) (omega (arith, s .fits .n)) (p .ensures .0 .0)
-    (p .ensures .1) (c .before .before .before .digit-of2 .ensures) (c .before .before .put-byte2 .ensures .0) (c .before .before .put-byte2 .ensures .1)
+    (p .ensures .1) (c .before .before .before .digit-of2 .ensures) (c .before .before .put-byte2 .ensures .0)
+    (c .before .before .put-byte2 .ensures .1)
 
 pub +put-number-spec : {M : Type 1} → statement M
 +put-number-spec = close μ-put-number λ t. put-number-lts.spec (

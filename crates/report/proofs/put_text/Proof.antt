@@ -16,7 +16,12 @@ abbrev μ-loop : tie.MeasureT-loop
 μ-loop out₀ at text i₀ out i = length text - i
 
 loop-holds : tie.Need-loop-holds Inv-loop μ-loop
-loop-holds c = (search needs, refl, let q : (c .args) .at + 0 ≡ (c .args) .at = omega arith in ap (λ (k : ℕ). sets ((c .args) .out .now) k ((c .args) .text .now)) q)
+loop-holds c = (
+  search needs,
+  refl,
+  let q : (c .args) .at + 0 ≡ (c .args) .at = omega arith in ap
+      (λ (k : ℕ). sets ((c .args) .out .now) k ((c .args) .text .now)) q,
+)
 
 loop-again : tie.Need-loop-again Inv-loop μ-loop
 loop-again c =
@@ -40,16 +45,5 @@ returns c =
 pub put-text-spec : {M : Type 1} → statement M
 put-text-spec =
     tie.close
-    (tie.spec
-    Inv-loop
-    μ-loop
-    loop-holds
-    (λ c. search needs)
-    (λ c. search needs)
-    (λ c. search needs)
-    (λ c. search needs)
-    (λ c. search needs)
-    loop-again
-    (λ c. search needs)
-    (λ c. search needs)
-    returns)
+    (tie.spec Inv-loop μ-loop loop-holds (λ c. search needs) (λ c. search needs) (λ c. search needs) (λ c. search needs)
+    (λ c. search needs) loop-again (λ c. search needs) (λ c. search needs) returns)

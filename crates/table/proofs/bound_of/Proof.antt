@@ -1,4 +1,4 @@
-use Rattle.opening.specs.Opening.{mostRows}
+use Rattle.limits.specs.Limits.{mostRows}
 use Rattle.table.specs.Plans.{boundBy}
 use Rattle.table.proofs.PlanLaws.{bound-by}
 use native.Mathlib.Omega.{arith}

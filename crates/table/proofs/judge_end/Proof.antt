@@ -18,14 +18,5 @@ returns-4 c = simp (← c .refuse3 .ensures, c .before .before .reach2 .given .1
 pub judge-end-spec : {M : Type 1} → statement M
 judge-end-spec =
     tie.close
-    (tie.spec
-    (λ c. search needs)
-    returns
-    (λ c κs. search needs)
-    returns-2
-    (λ c. search needs)
-    (λ c κs. search needs)
-    returns-3
-    (λ c. search needs)
-    (λ c κs. search needs)
-    returns-4)
+    (tie.spec (λ c. search needs) returns (λ c κs. search needs) returns-2 (λ c. search needs) (λ c κs. search needs)
+    returns-3 (λ c. search needs) (λ c κs. search needs) returns-4)

@@ -1,4 +1,3 @@
-use borrow.Author.Needs.{needs}
 use borrow.Author.Tests.{le-ltb, lt-ltb}
 use Rattle.table.proofs.lies_outside.Statement.{statement}
 use Rattle.table.proofs.lies_outside.Tie as tie

@@ -1,4 +1,3 @@
-use borrow.Author.Needs.{needs}
 use borrow.Author.Tests.{eq-eqb, ne-eqb}
 use Rattle.table.proofs.no_such.Statement.{statement}
 use Rattle.table.proofs.no_such.Tie as tie

@@ -5,7 +5,7 @@ use Rattle.table.proofs.part_of.Tie as tie
 
 returns : tie.Need-returns
 unfolding partOf
-returns c = simp (← (c .part) .ensures, ← (c .before .span-of) .ensures)
+returns c = simp (← (c .part) .ensures, ← (c .before .extent-of) .ensures)
 
 pub part-of-spec : {M : Type 1} → statement M
 part-of-spec = tie.close (tie.spec (λ c κs. search needs) (λ c κs. search needs) returns)

@@ -1,5 +1,4 @@
 use borrow.Author.Needs.{needs}
-use mathlib.Core.Path.{_∙_, sym}
 use Rattle.table.specs.Values.{shown}
 use Rattle.table.proofs.show.Statement.{statement}
 use Rattle.table.proofs.show.Tie as tie
@@ -15,10 +14,8 @@ returns-2 c = simp (c .enum-told2 .given .1, ← c .before .before .elements-byt
 returns-3 : tie.Need-returns-3
 unfolding shown
 returns-3 c =
-    let at-read4 = c .before in
-    let at-enum-told3 = at-read4 .before in
-    let at-elements-bytes = at-enum-told3 .before .before in
-    let at-elements-start = at-elements-bytes .before in
+    let at-read4 = c .before in let at-enum-told3 = at-read4 .before in
+    let at-elements-bytes = at-enum-told3 .before .before in let at-elements-start = at-elements-bytes .before in
     simp (
       ← c .float-value .ensures,
       ← at-read4 .read4 .ensures,
@@ -30,10 +27,8 @@ returns-3 c =
 returns-4 : tie.Need-returns-4
 unfolding shown
 returns-4 c =
-    let at-read8 = c .before in
-    let at-enum-told4 = at-read8 .before in
-    let at-elements-bytes = at-enum-told4 .before .before in
-    let at-elements-start = at-elements-bytes .before in
+    let at-read8 = c .before in let at-enum-told4 = at-read8 .before in
+    let at-elements-bytes = at-enum-told4 .before .before in let at-elements-start = at-elements-bytes .before in
     simp (
       ← c .double-value .ensures,
       ← at-read8 .read8 .ensures,
@@ -45,10 +40,8 @@ returns-4 c =
 returns-5 : tie.Need-returns-5
 unfolding shown
 returns-5 c =
-    let at-read2 = c .before in
-    let at-enum-told5 = at-read2 .before in
-    let at-elements-bytes = at-enum-told5 .before .before in
-    let at-elements-start = at-elements-bytes .before in
+    let at-read2 = c .before in let at-enum-told5 = at-read2 .before in
+    let at-elements-bytes = at-enum-told5 .before .before in let at-elements-start = at-elements-bytes .before in
     simp (
       ← c .short-value .ensures,
       ← at-read2 .read2 .ensures,
@@ -60,10 +53,8 @@ returns-5 c =
 returns-6 : tie.Need-returns-6
 unfolding shown
 returns-6 c =
-    let at-read42 = c .before in
-    let at-enum-told6 = at-read42 .before in
-    let at-elements-bytes = at-enum-told6 .before .before in
-    let at-elements-start = at-elements-bytes .before in
+    let at-read42 = c .before in let at-enum-told6 = at-read42 .before in
+    let at-elements-bytes = at-enum-told6 .before .before in let at-elements-start = at-elements-bytes .before in
     simp (
       ← c .integer-value .ensures,
       ← at-read42 .read42 .ensures,
@@ -86,7 +77,11 @@ returns-9 c = simp (c .enum-told9 .given .1, ← c .before .before .elements-byt
 
 returns-10 : tie.Need-returns-10
 unfolding shown
-returns-10 c = simp (c .enum-told10 .given .1, ← c .before .before .elements-bytes .ensures, ← c .before .before .before .elements-start .ensures)
+returns-10 c = simp (
+  c .enum-told10 .given .1,
+  ← c .before .before .elements-bytes .ensures,
+  ← c .before .before .before .elements-start .ensures,
+)
 
 returns-11 : tie.Need-returns-11
 unfolding shown
@@ -103,41 +98,9 @@ returns-13 c = simp (← c .triplet-value .ensures, c .before .enum-told13 .give
 pub show-spec : {M : Type 1} → statement M
 show-spec =
     tie.close
-    (tie.spec
-    (λ c κs. search needs)
-    (λ c κs. search needs)
-    (λ c. search needs)
-    (λ c. search needs)
-    (λ c. search needs)
-    (λ c κs. search needs)
-    (λ c κs. search needs)
-    (λ c. search needs)
-    (λ c κs. search needs)
-    (λ c κs. search needs)
-    (λ c. search needs)
-    (λ c κs. search needs)
-    (λ c κs. search needs)
-    (λ c. search needs)
-    (λ c κs. search needs)
-    (λ c κs. search needs)
-    (λ c. search needs)
-    (λ c. search needs)
-    (λ c. search needs)
-    (λ c. search needs)
-    (λ c. search needs)
-    (λ c. search needs)
-    (λ c. search needs)
-    (λ c κs. search needs)
-    returns
-    returns-2
-    returns-3
-    returns-4
-    returns-5
-    returns-6
-    returns-7
-    returns-8
-    returns-9
-    returns-10
-    returns-11
-    returns-12
-    returns-13)
+    (tie.spec (λ c κs. search needs) (λ c κs. search needs) (λ c. search needs) (λ c. search needs) (λ c. search needs)
+    (λ c κs. search needs) (λ c κs. search needs) (λ c. search needs) (λ c κs. search needs) (λ c κs. search needs)
+    (λ c. search needs) (λ c κs. search needs) (λ c κs. search needs) (λ c. search needs) (λ c κs. search needs)
+    (λ c κs. search needs) (λ c. search needs) (λ c. search needs) (λ c. search needs) (λ c. search needs)
+    (λ c. search needs) (λ c. search needs) (λ c. search needs) (λ c κs. search needs) returns returns-2 returns-3
+    returns-4 returns-5 returns-6 returns-7 returns-8 returns-9 returns-10 returns-11 returns-12 returns-13)

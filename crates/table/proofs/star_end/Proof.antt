@@ -20,12 +20,5 @@ returns-2 c = simp (← c .plain-end .ensures, ← c .before .read4 .ensures, le
 pub star-end-spec : {M : Type 1} → statement M
 star-end-spec =
     tie.close
-    (tie.spec
-    (λ c. search needs)
-    returns
-    (λ c κs. search needs)
-    (λ c. search needs)
-    (λ c. search needs)
-    mul-plain-end
-    (λ c κs. search needs)
-    returns-2)
+    (tie.spec (λ c. search needs) returns (λ c κs. search needs) (λ c. search needs) (λ c. search needs) mul-plain-end
+    (λ c κs. search needs) returns-2)

@@ -12,12 +12,5 @@ returns-2 c = simp (sym (c .before .before .before .read .ensures) ∙ c .before
 pub triplet-value-spec : {M : Type 1} → statement M
 triplet-value-spec =
     tie.close
-    (tie.spec
-    (λ c. search needs)
-    (λ c. search needs)
-    (λ c. search needs)
-    (λ c κs. search needs)
-    (λ c. search needs)
-    (λ c. search needs)
-    returns
-    returns-2)
+    (tie.spec (λ c. search needs) (λ c. search needs) (λ c. search needs) (λ c κs. search needs) (λ c. search needs)
+    (λ c. search needs) returns returns-2)

@@ -11,9 +11,7 @@ use Rattle.teller.proofs.add_ring.Tie as tie
 
 add-result : tie.Need-add-result
 add-result c =
-    let at-ring-line = c .before .before in
-    let start = at-ring-line .before .before .before in
-    let s = start .args in
+    let at-ring-line = c .before .before in let start = at-ring-line .before .before .before in let s = start .args in
     omega (
       arith,
       told-bytes (ringLine (s .row) (s .face) (s .steps)) (s .text .now) (s .at) (ring-fits (s .row) (s .face) (s .steps))
@@ -24,22 +22,15 @@ add-result c =
 
 returns : tie.Need-returns
 returns c =
-    let at-ring-line = c .before .before in
-    let start = at-ring-line .before .before .before in
-    let s = start .args in
+    let at-ring-line = c .before .before in let start = at-ring-line .before .before .before in let s = start .args in
     let line = ringLine (s .row) (s .face) (s .steps) in (
-      ap (λ (n : ℕ). s .at + n) (told-bytes line (s .text .now) (s .at) (ring-fits (s .row) (s .face) (s .steps)) (start .pre) _ (at-ring-line .ring-line .ensures .0)),
+      ap (λ (n : ℕ). s .at + n) (told-bytes line (s .text .now) (s .at) (ring-fits (s .row) (s .face) (s .steps))
+          (start .pre) _ (at-ring-line .ring-line .ensures .0)),
       told-part line (s .text .now) (s .at) (ring-fits (s .row) (s .face) (s .steps)) (start .pre) _ (at-ring-line .ring-line .ensures .1),
     )
 
 pub add-ring-spec : {M : Type 1} → statement M
 add-ring-spec =
     tie.close
-    (tie.spec
-    (λ c. search needs)
-    (λ c. search needs)
-    (λ c. search needs)
-    (λ c κs. search needs)
-    add-result
-    (λ c. search needs)
-    returns)
+    (tie.spec (λ c. search needs) (λ c. search needs) (λ c. search needs) (λ c κs. search needs) add-result
+    (λ c. search needs) returns)

@@ -1,21 +1,28 @@
 -- The list of tests in parts, each over the columns that it needs: the list of `Check` is these parts joined.
+use mathlib.Core.Path.{_≡_}
 use mathlib.Core.Bool.{Bool, cond, not, _&&_, _||_}
 use mathlib.Core.List.{List, [], _∷_, _++_}
-use Prim.Native.Nat.{ℕ, zero, suc, pred}
+use Prim.Native.Nat.{ℕ, zero, suc, pred, _≤_}
 use lib.Dec.{eqb, ltb}
 use lib.ListN.{length}
 use Rattle.laws.specs.Lowest.{lowest}
 use Rattle.laws.specs.Buffer.{front}
-use Rattle.laws.specs.Marks.{zeros, count, ownerAt}
+use Rattle.laws.specs.Marks.{zeros, count, painted, ownerAt}
 use Rattle.laws.specs.Orbit.{entry, iterate, firstTaken, firstUnmet, firstDoubled}
 use Rattle.refusal.specs.declared.Refusal.{Refusal}
-use Rattle.refusal.specs.Order.{located, lowestOf}
+use Rattle.refusal.specs.Order.{refusal, fine, located, lowestOf}
 use Rattle.side.specs.Edges.{Edges, edgeCount, sideCount}
 use Rattle.side.specs.Successor.{after}
+use Rattle.limits.specs.Limits.{mostRows}
 use Rattle.tile.specs.declared.Walked.{Walked}
 use Rattle.tile.specs.declared.Walked.the-variants.{Steps, Refused}
-use Rattle.tile.specs.Columns.{Tile, F, R, N, sides, sideWith, startSide, emptyAllowed}
+use Rattle.tile.specs.Columns.{Tile, F, R, N, sides, Regular, sideWith, startSide, emptyAllowed}
+use Rattle.tile.specs.Walk.{Moves, Back, Open, Stuck}
 use Rattle.tile.specs.Check.{rowOutside, edgeSideRefusal, edgeAway, entryOutside, runBroken}
+
+-- 23 to 25: what is wrong at the lowest side at which something is
+abbrev pub refusedAtSide : Edges → Refusal
+refusedAtSide t = lowestOf (edgeSideRefusal t) (sideCount t)
 
 -- 20 to 25: the rows and the sides of the edge table, in a tile with so many faces and nodes
 unfoldable pub edgeTests : Edges → ℕ → ℕ → List Refusal
@@ -23,12 +30,28 @@ edgeTests t faces nodes =
     located 20 (lowest (rowOutside nodes (t .startNode) (t .endNode)) (edgeCount t))
     ∷ located 21 (lowest (rowOutside faces (t .rightFace) (t .leftFace)) (edgeCount t))
     ∷ located 22 (lowest (rowOutside (edgeCount t) (t .rightEdge) (t .leftEdge)) (edgeCount t))
-    ∷ lowestOf (edgeSideRefusal t) (sideCount t)
+    ∷ refusedAtSide t
     ∷ []
 
 -- the marks after these tests: each side's predecessors, up to two, or zeros where one refuses
 unfoldable pub tallied : Edges → Refusal → List ℕ → List ℕ
 tallied t q d = front (cond (eqb (q .number) 0) (count (after t) (sideCount t)) zeros) (sideCount t) d
+
+-- the marks where none refuses
+abbrev pub predecessorsCounted : Edges → List ℕ → List ℕ
+predecessorsCounted t d = front (count (after t) (sideCount t)) (sideCount t) d
+
+-- 26: the lowest side with more than one predecessor, or 0
+abbrev pub doubledSide : Edges → ℕ
+doubledSide t = firstDoubled (after t) (sideCount t)
+
+-- 15 and 23 to 26 pass: each side is on a cycle
+abbrev pub Cycles : Edges → Type 0
+Cycles t = Regular t × (refusedAtSide t ≡ fine) × (doubledSide t ≡ 0)
+
+-- the marks after the sides of the cycle from a start are painted with the row
+abbrev pub cyclePainted : Edges → ℕ → ℕ → List ℕ → List ℕ
+cyclePainted t start row d = front (painted (after t) d start row (sideCount t)) (sideCount t) d
 
 -- 29: of a ring with the face f and the start edge e, in a tile with so many edges, faces and rings
 unfoldable pub startMissing : ℕ → ℕ → ℕ → List ℕ → List ℕ → ℕ → ℕ → Bool
@@ -65,6 +88,14 @@ startOf t facId startEdge r = sideWith (edgeCount t) (t .rightFace) (t .leftFace
 unfoldable pub lacksStart : Edges → List ℕ → List ℕ → ℕ → Bool
 lacksStart t facId startEdge r = eqb (startOf t facId startEdge r) 0 && ltb 0 (edgeCount t)
 
+-- and each ring row has a start side, in a tile that has edges
+abbrev pub Paintable : Edges → List ℕ → List ℕ → Type 0
+Paintable t facId startEdge = Cycles t × (length facId ≤ mostRows) × (lowest (lacksStart t facId startEdge) (length facId) ≡ 0)
+
+-- 30: the lowest ring row whose start is on the cycle of one before, or 0
+abbrev pub takenRing : Edges → List ℕ → List ℕ → ℕ
+takenRing t facId startEdge = firstTaken (after t) (sideCount t) (startOf t facId startEdge) (length facId)
+
 -- the ring rows that are painted: those before the first that is taken, or all
 abbrev pub rowsPainted : ℕ → ℕ → ℕ
 rowsPainted zero rows = rows
@@ -73,14 +104,14 @@ rowsPainted (suc r) rows = r
 -- 30 and 31: the rings' cycles
 unfoldable pub ownerTests : Edges → List ℕ → List ℕ → List Refusal
 ownerTests t facId startEdge =
-    located 30 (firstTaken (after t) (sideCount t) (startOf t facId startEdge) (length facId))
+    located 30 (takenRing t facId startEdge)
     ∷ located 31 (firstUnmet (after t) (sideCount t) (startOf t facId startEdge) (length facId))
     ∷ []
 
 -- the owner marks after the rings are painted, on a refusal too
 unfoldable pub ownersPainted : Edges → List ℕ → List ℕ → List ℕ → List ℕ
 ownersPainted t facId startEdge d =
-    front (ownerAt (after t) (sideCount t) (startOf t facId startEdge) (rowsPainted (firstTaken (after t) (sideCount t) (startOf t facId startEdge) (length facId)) (length facId))) (sideCount t) d
+    front (ownerAt (after t) (sideCount t) (startOf t facId startEdge) (rowsPainted (takenRing t facId startEdge) (length facId))) (sideCount t) d
 
 -- 20 to 31: what is tested once the sizes and the owner space are right
 abbrev pub ringsOf : Tile → List Refusal
@@ -90,7 +121,7 @@ abbrev pub ownersOf : Tile → List Refusal
 ownersOf t = ownerTests (t .edg) (t .facId) (t .startEdge)
 
 abbrev pub afterEdges : Tile → List Refusal
-afterEdges t = located 26 (firstDoubled (after (t .edg)) (sides t)) ∷ (ringsOf t ++ ownersOf t)
+afterEdges t = located 26 (doubledSide (t .edg)) ∷ (ringsOf t ++ ownersOf t)
 
 unfoldable pub laterTests : Tile → List Refusal
 laterTests t = edgeTests (t .edg) (F t) (N t) ++ afterEdges t
@@ -98,6 +129,12 @@ laterTests t = edgeTests (t .edg) (F t) (N t) ++ afterEdges t
 -- the marks after these tests: the owners, or zeros where one refuses
 unfoldable pub marksJudged : Tile → Refusal → List ℕ → List ℕ
 marksJudged t q d = cond (eqb (q .number) 0) (front (ownerAt (after (t .edg)) (sides t) (startSide t) (R t)) (sides t) d) (front zeros (sides t) d)
+
+-- what the moves come to as a walk of ring row r whose output has room
+abbrev pub inFull : ℕ → Moves → Walked
+inFull r (Back k) = Steps k
+inFull r Open = Refused (refusal 32 r)
+inFull r (Stuck q) = Refused q
 
 -- the output after a walk from the side a: the sides of the steps, and nothing on a refusal
 abbrev pub pathWritten : Edges → ℕ → Walked → List ℕ → List ℕ

@@ -7,8 +7,7 @@ use Rattle.tilecheck.proofs.read_open.Tie as tie
 
 add-result : tie.Need-add-result
 add-result c =
-    let at-more = c .before in
-    let at-read-whole2 = at-more .before .before .before in
+    let at-more = c .before in let at-read-whole2 = at-more .before .before .before in
     let at-n = at-read-whole2 .before .before .before .before in
     let at-read-whole = at-n .before .before .before .before in
     omega (
@@ -20,8 +19,7 @@ add-result c =
 
 returns-4 : tie.Need-returns-4
 returns-4 c =
-    let at-more = c .before in
-    let at-read-whole2 = at-more .before .before .before in
+    let at-more = c .before in let at-read-whole2 = at-more .before .before .before in
     let at-n = at-read-whole2 .before .before .before .before in
     let at-read-whole = at-n .before .before .before .before in
     omega (
@@ -34,18 +32,6 @@ returns-4 c =
 pub read-open-spec : {M : Type 1} → statement M
 read-open-spec =
     tie.close
-    (tie.spec
-    (λ c κs. search needs)
-    (λ c. search needs)
-    (λ c. search needs)
-    (λ c. search needs)
-    (λ c. search needs)
-    (λ c. search needs)
-    (λ c. search needs)
-    (λ c κs. search needs)
-    (λ c. search needs)
-    (λ c. search needs)
-    (λ c. search needs)
-    add-result
-    (λ c. search needs)
-    returns-4)
+    (tie.spec (λ c κs. search needs) (λ c. search needs) (λ c. search needs) (λ c. search needs) (λ c. search needs)
+    (λ c. search needs) (λ c. search needs) (λ c κs. search needs) (λ c. search needs) (λ c. search needs)
+    (λ c. search needs) add-result (λ c. search needs) returns-4)

@@ -16,38 +16,18 @@ abbrev μ-loop : tie.MeasureT-loop
 
 add-at : tie.Need-add-at Inv-loop μ-loop
 add-at c =
-    let at-n = c .before .before in
-    let at-read-part = at-n .before .before .before .before in
+    let at-n = c .before .before in let at-read-part = at-n .before .before .before .before in
     omega (arith, given-within _ _ _ (at-n .n .given .1) (at-read-part .read-part .ensures))
 
 loop-again : tie.Need-loop-again Inv-loop μ-loop
 loop-again c =
-    let at-n = c .before .before in
-    let at-read-part = at-n .before .before .before .before in
+    let at-n = c .before .before in let at-read-part = at-n .before .before .before .before in
     (omega (arith, given-within _ _ _ (at-n .n .given .1) (at-read-part .read-part .ensures)), search needs)
 
 pub read-whole-spec : {M : Type 1} → statement M
 read-whole-spec =
     tie.close
-    (tie.spec
-    Inv-loop
-    μ-loop
-    (λ c. search needs)
-    (λ c κs. search needs)
-    (λ c. search needs)
-    (λ c. search needs)
-    (λ c. search needs)
-    add-at
-    (λ c. search needs)
-    loop-again
-    (λ c. search needs)
-    (λ c. search needs)
-    (λ c. search needs)
-    (λ c. search needs)
-    (λ c. search needs)
-    (λ c. search needs)
-    (λ c. search needs)
-    (λ c. search needs)
-    (λ c. search needs)
-    (λ c. search needs)
-    (λ c. search needs))
+    (tie.spec Inv-loop μ-loop (λ c. search needs) (λ c κs. search needs) (λ c. search needs) (λ c. search needs)
+    (λ c. search needs) add-at (λ c. search needs) loop-again (λ c. search needs) (λ c. search needs)
+    (λ c. search needs) (λ c. search needs) (λ c. search needs) (λ c. search needs) (λ c. search needs)
+    (λ c. search needs) (λ c. search needs) (λ c. search needs) (λ c. search needs))

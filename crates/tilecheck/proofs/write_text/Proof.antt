@@ -14,10 +14,5 @@ part-write-all-end c =
 pub write-text-spec : {M : Type 1} → statement M
 write-text-spec =
     tie.close
-    (tie.spec
-    (λ c κs. search needs)
-    (λ c. search needs)
-    (λ c. search needs)
-    part-write-all-end
-    (λ c κs. search needs)
+    (tie.spec (λ c κs. search needs) (λ c. search needs) (λ c. search needs) part-write-all-end (λ c κs. search needs)
     (λ c. search needs))

@@ -16,17 +16,13 @@ returns-2 c = simp (lt-ltb _ _ (c .if2 .taken), ne-eqb _ _ (c .before .if1 .left
 returns-3 : tie.Need-returns-3
 unfolding partAt
 returns-3 c =
-    let at-number-at = c .before in
-    let at-if2 = at-number-at .before in
-    let at-if1 = at-if2 .before in
+    let at-number-at = c .before in let at-if2 = at-number-at .before in let at-if1 = at-if2 .before in
     simp (lt-ltb _ _ (c .if3 .taken), ← at-number-at .number-at .ensures, le-ltb _ _ (at-if2 .if2 .left), ne-eqb _ _ (at-if1 .if1 .left))
 
 returns-4 : tie.Need-returns-4
 unfolding partAt
 returns-4 c =
-    let at-number-at = c .before in
-    let at-if2 = at-number-at .before in
-    let at-if1 = at-if2 .before in
+    let at-number-at = c .before in let at-if2 = at-number-at .before in let at-if1 = at-if2 .before in
     simp (le-ltb _ _ (c .if3 .left), ← at-number-at .number-at .ensures, le-ltb _ _ (at-if2 .if2 .left), ne-eqb _ _ (at-if1 .if1 .left))
 
 pub part-at-spec : {M : Type 1} → statement M

@@ -16,11 +16,8 @@ returns-2 c = simp (← c .bad-at2 .ensures, ne-eqb _ _ (c .before .if2 .taken),
 returns-3 : tie.Need-returns-3
 unfolding tripletOf
 returns-3 c =
-    let at-width-of3 = c .before in
-    let at-width-of2 = at-width-of3 .before in
-    let at-width-of = at-width-of2 .before in
-    let at-if2 = at-width-of .before in
-    let at-if1 = at-if2 .before .before in
+    let at-width-of3 = c .before in let at-width-of2 = at-width-of3 .before in let at-width-of = at-width-of2 .before in
+    let at-if2 = at-width-of .before in let at-if1 = at-if2 .before .before in
     simp (
       ← c .read-parts .ensures,
       ← at-width-of3 .width-of3 .ensures .0,
@@ -33,14 +30,5 @@ returns-3 c =
 pub read-spec : {M : Type 1} → statement M
 read-spec =
     tie.close
-    (tie.spec
-    (λ c κs. search needs)
-    returns
-    (λ c. search needs)
-    (λ c κs. search needs)
-    returns-2
-    (λ c κs. search needs)
-    (λ c κs. search needs)
-    (λ c κs. search needs)
-    (λ c κs. search needs)
-    returns-3)
+    (tie.spec (λ c κs. search needs) returns (λ c. search needs) (λ c κs. search needs) returns-2 (λ c κs. search needs)
+    (λ c κs. search needs) (λ c κs. search needs) (λ c κs. search needs) returns-3)

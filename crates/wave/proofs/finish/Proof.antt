@@ -7,8 +7,7 @@ use Rattle.wave.proofs.finish.Tie as tie
 
 mul-t11 : tie.Need-mul-t11
 mul-t11 c =
-    let at-st = c .before .before in
-    let start = at-st .before .before in
+    let at-st = c .before .before in let start = at-st .before .before in
     let f = rw (at-st .st .given .1) at (start .pre) in
     omega (arith, f .1, ten-room _ (f .0))
 
@@ -30,15 +29,5 @@ returns-5 c = simp (c .before .st3 .given .1)
 pub finish-spec : {M : Type 1} → statement M
 finish-spec =
     tie.close
-    (tie.spec
-    (λ c. search needs)
-    mul-t11
-    (λ c κs. search needs)
-    (λ c. search needs)
-    (λ c κs. search needs)
-    (λ c. search needs)
-    returns
-    returns-2
-    returns-3
-    returns-4
-    returns-5)
+    (tie.spec (λ c. search needs) mul-t11 (λ c κs. search needs) (λ c. search needs) (λ c κs. search needs)
+    (λ c. search needs) returns returns-2 returns-3 returns-4 returns-5)

@@ -7,57 +7,48 @@ use Rattle.wave.proofs.step_by.Tie as tie
 
 mul-t15 : tie.Need-mul-t15
 mul-t15 c =
-    let at-st = c .before .before .before .before .before in
-    let start = at-st .before .before in
+    let at-st = c .before .before .before .before .before in let start = at-st .before .before in
     let f = rw (at-st .st .given .1) at (start .pre .0) in
     omega (arith, f .1, ten-next _ (c .if1 .taken))
 
 add-t16 : tie.Need-add-t16
 add-t16 c =
-    let at-k = c .before .before in
-    let at-st = at-k .before .before .before in
-    let start = at-st .before .before in
+    let at-k = c .before .before in let at-st = at-k .before .before .before in let start = at-st .before .before in
     let f = rw (at-st .st .given .1) at (start .pre .0) in
     let s = rw (at-k .k .given .1) at (start .pre .1) in
     omega (arith, f .1, s, ten-next _ (c .if1 .taken))
 
 mul-t20 : tie.Need-mul-t20
 mul-t20 c =
-    let at-st = c .before .before .before .before in
-    let start = at-st .before .before in
+    let at-st = c .before .before .before .before in let start = at-st .before .before in
     let f = rw (at-st .st .given .1) at (start .pre .0) in
     omega (arith, f .1, ten-room _ (f .0))
 
 mul-t24 : tie.Need-mul-t24
 mul-t24 c =
-    let at-st = c .before .before .before .before in
-    let start = at-st .before .before in
+    let at-st = c .before .before .before .before in let start = at-st .before .before in
     let f = rw (at-st .st .given .1) at (start .pre .0) in
     omega (arith, f .1, ten-room _ (f .0))
 
 worth-requires : tie.Need-worth-requires
 worth-requires c κs =
-    let at-k2 = c .before .before in
-    let start = at-k2 .before .before .before .before .before in
+    let at-k2 = c .before .before in let start = at-k2 .before .before .before .before .before in
     rw (at-k2 .k2 .given .1) at (start .pre .1)
 
 add-t31 : tie.Need-add-t31
 add-t31 c =
-    let at-st2 = c .before .before .before .before .before .before in
-    let start = at-st2 .before .before in
+    let at-st2 = c .before .before .before .before .before .before in let start = at-st2 .before .before in
     let f = rw (at-st2 .st2 .given .1) at (start .pre .0) in
     omega (arith, f .0, f .1)
 
 returns : tie.Need-returns
 returns c =
-    let at-k = c .before .before in
-    let at-st = at-k .before .before .before in
+    let at-k = c .before .before in let at-st = at-k .before .before .before in
     simp (lt-ltb _ _ (c .if1 .taken), at-k .k .given .1, at-st .st .given .1)
 
 returns-2 : tie.Need-returns-2
 returns-2 c =
-    let at-k = c .before .before in
-    let at-st = at-k .before .before .before in
+    let at-k = c .before .before in let at-st = at-k .before .before .before in
     simp (le-ltb _ _ (c .if1 .left), at-k .k .given .1, at-st .st .given .1)
 
 returns-3 : tie.Need-returns-3
@@ -77,15 +68,12 @@ returns-7 c = simp (c .enum-told3 .given .1, c .before .before .before .st .give
 
 returns-8 : tie.Need-returns-8
 returns-8 c =
-    let at-if4 = c .before in
-    let at-k2 = at-if4 .before .before in
-    let at-st2 = at-k2 .before .before .before in
+    let at-if4 = c .before in let at-k2 = at-if4 .before .before in let at-st2 = at-k2 .before .before .before in
     simp (c .worth .ensures .0, lt-ltb _ _ (at-if4 .if4 .taken), at-k2 .k2 .given .1, at-st2 .st2 .given .1)
 
 returns-9 : tie.Need-returns-9
 returns-9 c =
-    let at-k2 = c .before .before in
-    let at-st2 = at-k2 .before .before .before in
+    let at-k2 = c .before .before in let at-st2 = at-k2 .before .before .before in
     simp (le-ltb _ _ (c .if4 .left), at-k2 .k2 .given .1, at-st2 .st2 .given .1)
 
 returns-10 : tie.Need-returns-10
@@ -115,44 +103,9 @@ returns-17 c = simp (c .enum-told10 .given .1, c .before .before .before .st3 .g
 pub step-by-spec : {M : Type 1} → statement M
 step-by-spec =
     tie.close
-    (tie.spec
-    (λ c. search needs)
-    (λ c. search needs)
-    (λ c. search needs)
-    mul-t15
-    add-t16
-    (λ c. search needs)
-    mul-t20
-    (λ c. search needs)
-    mul-t24
-    (λ c. search needs)
-    (λ c. search needs)
-    (λ c. search needs)
-    (λ c. search needs)
-    worth-requires
-    add-t31
-    (λ c. search needs)
-    (λ c. search needs)
-    (λ c. search needs)
-    (λ c. search needs)
-    (λ c. search needs)
-    (λ c. search needs)
-    (λ c. search needs)
-    (λ c. search needs)
-    returns
-    returns-2
-    returns-3
-    returns-4
-    returns-5
-    returns-6
-    returns-7
-    returns-8
-    returns-9
-    returns-10
-    returns-11
-    returns-12
-    returns-13
-    returns-14
-    returns-15
-    returns-16
-    returns-17)
+    (tie.spec (λ c. search needs) (λ c. search needs) (λ c. search needs) mul-t15 add-t16 (λ c. search needs) mul-t20
+    (λ c. search needs) mul-t24 (λ c. search needs) (λ c. search needs) (λ c. search needs) (λ c. search needs)
+    worth-requires add-t31 (λ c. search needs) (λ c. search needs) (λ c. search needs) (λ c. search needs)
+    (λ c. search needs) (λ c. search needs) (λ c. search needs) (λ c. search needs) returns returns-2 returns-3
+    returns-4 returns-5 returns-6 returns-7 returns-8 returns-9 returns-10 returns-11 returns-12 returns-13 returns-14
+    returns-15 returns-16 returns-17)

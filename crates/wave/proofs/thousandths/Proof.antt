@@ -26,27 +26,22 @@ loop-holds c = (search needs, (search needs, search needs), refl)
 
 step-by-requires : tie.Need-step-by-requires Inv-loop μ-loop
 step-by-requires c κs =
-    let at-loop = c .before .before .before in
-    let start = at-loop .before .before in
+    let at-loop = c .before .before .before in let start = at-loop .before .before in
     (at-loop .loop .inv .1, rw (c .kind-of .ensures) (one-digit (getD (start .args .text .now) (at-loop .loop .i) 0)))
 
 returns : tie.Need-returns Inv-loop μ-loop
 unfolding heightOf
 returns c =
-    let at-loop = c .before .before .before .before .before .before .before in
-    let start = at-loop .before .before in
-    let l = at-loop .loop in
-    let s = start .args .text .now in
+    let at-loop = c .before .before .before .before .before .before .before in let start = at-loop .before .before in
+    let l = at-loop .loop in let s = start .args .text .now in
     let e : stepOf (l .st) (kindOf (getD s (l .i) 0)) ≡ Stop = cc in
-    ap (λ (r : Refusal). Refused r) (c .refuse .ensures) ∙ ap (answer (length s)) (sym (run-stop machine s (l .st) (l .i) (search needs) (ap nextOf e)) ∙ l .inv .2)
+    ap (λ (r : Refusal). Refused r) (c .refuse .ensures)
+    ∙ ap (answer (length s)) (sym (run-stop machine s (l .st) (l .i) (search needs) (ap nextOf e)) ∙ l .inv .2)
 
 loop-again : tie.Need-loop-again Inv-loop μ-loop
 loop-again c =
-    let at-next = c .before in
-    let at-loop = at-next .before .before .before .before .before .before in
-    let start = at-loop .before .before in
-    let l = at-loop .loop in
-    let s = start .args .text .now in
+    let at-next = c .before in let at-loop = at-next .before .before .before .before .before .before in
+    let start = at-loop .before .before in let l = at-loop .loop in let s = start .args .text .now in
     let n = at-next .next .given .0 .0 in
     let e : stepOf (l .st) (kindOf (getD s (l .i) 0)) ≡ Go n = cc in (
       search needs,
@@ -60,9 +55,7 @@ finish-requires c κs = (c .before .loop) .inv .1
 returns-2 : tie.Need-returns-2 Inv-loop μ-loop
 unfolding heightOf
 returns-2 c =
-    let at-loop = c .before .before in
-    let start = at-loop .before .before in
-    let l = at-loop .loop in
+    let at-loop = c .before .before in let start = at-loop .before .before in let l = at-loop .loop in
     let s = start .args .text .now in
     let e : l .i ≡ length s = omega arith in
     c .finish .ensures ∙ rw e (ap (answer (length s)) (sym (run-end machine s (l .st) (l .i) (search needs)) ∙ l .inv .2))
@@ -70,19 +63,6 @@ returns-2 c =
 pub thousandths-spec : {M : Type 1} → statement M
 thousandths-spec =
     tie.close
-    (tie.spec
-    Inv-loop
-    μ-loop
-    loop-holds
-    (λ c. search needs)
-    (λ c κs. search needs)
-    step-by-requires
-    (λ c. search needs)
-    (λ c. search needs)
-    (λ c κs. search needs)
-    returns
-    (λ c. search needs)
-    (λ c. search needs)
-    loop-again
-    finish-requires
-    returns-2)
+    (tie.spec Inv-loop μ-loop loop-holds (λ c. search needs) (λ c κs. search needs) step-by-requires (λ c. search needs)
+    (λ c. search needs) (λ c κs. search needs) returns (λ c. search needs) (λ c. search needs) loop-again
+    finish-requires returns-2)

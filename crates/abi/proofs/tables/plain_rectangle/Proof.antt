@@ -14,13 +14,5 @@ returns-3 c = simp (← c .no-rectangle .ensures, c .before .before .f3 .given .
 pub plain-rectangle-spec : {M : Type 1} → statement M
 plain-rectangle-spec =
     tie.close
-    (tie.spec
-    (λ c. search needs)
-    (λ c κs. search needs)
-    (λ c. search needs)
-    (λ c κs. search needs)
-    (λ c. search needs)
-    (λ c κs. search needs)
-    returns
-    returns-2
-    returns-3)
+    (tie.spec (λ c. search needs) (λ c κs. search needs) (λ c. search needs) (λ c κs. search needs) (λ c. search needs)
+    (λ c κs. search needs) returns returns-2 returns-3)

@@ -11,10 +11,4 @@ returns-2 c = simp (c .refused-table .ensures, c .before .before .answer .given 
 pub plain-table-spec : {M : Type 1} → statement M
 plain-table-spec =
     tie.close
-    (tie.spec
-    (λ c. search needs)
-    (λ c κs. search needs)
-    (λ c. search needs)
-    (λ c κs. search needs)
-    returns
-    returns-2)
+    (tie.spec (λ c. search needs) (λ c κs. search needs) (λ c. search needs) (λ c κs. search needs) returns returns-2)

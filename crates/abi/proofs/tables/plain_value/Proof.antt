@@ -11,7 +11,10 @@ returns-2 : tie.Need-returns-2
 returns-2 c = simp (← c .part-of .ensures, c .before .enum-told .given .1)
 
 returns-3 : tie.Need-returns-3
-returns-3 c = simp (c .before .v2 .given .1, toZ-ofZ {w = w32} {z = c .before .v2 .given .0 .0} (sfits-of {w = w32} (c .known-told2 .given .0 .1)))
+returns-3 c = simp (
+  c .before .v2 .given .1,
+  toZ-ofZ {w = w32} {z = c .before .v2 .given .0 .0} (sfits-of {w = w32} (c .known-told2 .given .0 .1)),
+)
 
 returns-4 : tie.Need-returns-4
 returns-4 c = simp (← c .part-of2 .ensures, c .before .enum-told2 .given .1)
@@ -49,44 +52,10 @@ returns-14 c = simp (c .before .v11 .given .1)
 pub plain-value-spec : {M : Type 1} → statement M
 plain-value-spec =
     tie.close
-    (tie.spec
-    (λ c. search needs)
-    (λ c. search needs)
-    (λ c κs. search needs)
-    (λ c. search needs)
-    (λ c. search needs)
-    (λ c κs. search needs)
-    (λ c. search needs)
-    (λ c. search needs)
-    (λ c κs. search needs)
-    (λ c. search needs)
-    (λ c. search needs)
-    (λ c κs. search needs)
-    (λ c. search needs)
-    (λ c κs. search needs)
-    (λ c. search needs)
-    (λ c κs. search needs)
-    (λ c. search needs)
-    (λ c. search needs)
-    (λ c κs. search needs)
-    (λ c. search needs)
-    (λ c κs. search needs)
-    (λ c. search needs)
-    (λ c κs. search needs)
-    (λ c. search needs)
-    (λ c κs. search needs)
-    (λ c. search needs)
-    returns
-    returns-2
-    returns-3
-    returns-4
-    returns-5
-    returns-6
-    returns-7
-    returns-8
-    returns-9
-    returns-10
-    returns-11
-    returns-12
-    returns-13
-    returns-14)
+    (tie.spec (λ c. search needs) (λ c. search needs) (λ c κs. search needs) (λ c. search needs) (λ c. search needs)
+    (λ c κs. search needs) (λ c. search needs) (λ c. search needs) (λ c κs. search needs) (λ c. search needs)
+    (λ c. search needs) (λ c κs. search needs) (λ c. search needs) (λ c κs. search needs) (λ c. search needs)
+    (λ c κs. search needs) (λ c. search needs) (λ c. search needs) (λ c κs. search needs) (λ c. search needs)
+    (λ c κs. search needs) (λ c. search needs) (λ c κs. search needs) (λ c. search needs) (λ c κs. search needs)
+    (λ c. search needs) returns returns-2 returns-3 returns-4 returns-5 returns-6 returns-7 returns-8 returns-9
+    returns-10 returns-11 returns-12 returns-13 returns-14)

@@ -10,9 +10,7 @@ returns c = simp (← c .star .ensures, c .before .if1 .taken)
 returns-2 : tie.Need-returns-2
 unfolding countRight
 returns-2 c =
-    let at-if2 = c .before in
-    let at-star2 = at-if2 .before in
-    let at-if1 = at-star2 .before in
+    let at-if2 = c .before in let at-star2 = at-if2 .before in let at-if1 = at-star2 .before in
     simp (← c .in-range .ensures, at-if2 .if2 .taken, ← at-star2 .star2 .ensures, at-if1 .if1 .left)
 
 returns-3 : tie.Need-returns-3

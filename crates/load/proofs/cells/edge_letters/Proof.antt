@@ -29,19 +29,21 @@ mul-c-2 c = omega (arith, (c .before .before .pre) (suc ((c .before .loop) .k)) 
 
 element-copy-out-c : tie.Need-element-copy-out-c Inv-loop μ-loop
 element-copy-out-c c =
-    let at-loop = c .before in
-    let start = at-loop .before in
-    omega (arith, (start .pre) (suc (at-loop .loop .k)) (omega arith) (omega arith) .0, (start .pre) (suc (at-loop .loop .k)) (omega arith) (omega arith) .1)
+    let at-loop = c .before in let start = at-loop .before in
+    omega (
+      arith,
+      (start .pre) (suc (at-loop .loop .k)) (omega arith) (omega arith) .0,
+      (start .pre) (suc (at-loop .loop .k)) (omega arith) (omega arith) .1,
+    )
 
 loop-again : tie.Need-loop-again Inv-loop μ-loop
 loop-again c =
-    let at-loop = c .before .before .before in
-    let start = at-loop .before in
-    let s = start .args in
+    let at-loop = c .before .before .before in let start = at-loop .before in let s = start .args in
     let b = at-loop .loop in
     let q : pred (getD (s .t2) (b .k) 0) ≡ getD (s .t2) (b .k) 0 - 1 = omega arith in (
       omega arith,
-      front-next (λ k. letterOf (columnAt (s .t1) (getD (s .t2) k 0) .kind)) (b .k) _ (b .letters) (replicate 6 0) (b .inv .1) (rw q (c .letter .ensures)) (omega arith),
+      front-next (λ k. letterOf (columnAt (s .t1) (getD (s .t2) k 0) .kind)) (b .k) _ (b .letters) (replicate 6 0)
+          (b .inv .1) (rw q (c .letter .ensures)) (omega arith),
     )
 
 returns : tie.Need-returns Inv-loop μ-loop
@@ -55,18 +57,5 @@ returns c =
 pub edge-letters-spec : {M : Type 1} → statement M
 edge-letters-spec =
     tie.close
-    (tie.spec
-    Inv-loop
-    μ-loop
-    loop-holds
-    (λ c. search needs)
-    (λ c. search needs)
-    sub-c
-    mul-c-2
-    element-copy-out-c
-    (λ c κs. search needs)
-    (λ c. search needs)
-    (λ c. search needs)
-    (λ c. search needs)
-    loop-again
-    returns)
+    (tie.spec Inv-loop μ-loop loop-holds (λ c. search needs) (λ c. search needs) sub-c mul-c-2 element-copy-out-c
+    (λ c κs. search needs) (λ c. search needs) (λ c. search needs) (λ c. search needs) loop-again returns)

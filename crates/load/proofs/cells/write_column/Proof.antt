@@ -1,25 +1,22 @@
-use Rattle.load.proofs.CellLaws.{columnCellBy, ends-at, one-from, column-written}
-use Rattle.table.proofs.FoundLaws.{column-there}
-use Rattle.table.proofs.PlanLaws.{bound-first}
-use Rattle.table.specs.Plans.{boundBy}
-use Rattle.laws.proofs.BufferLaws.{front-next}
-use Rattle.laws.specs.Buffer.{front}
-use lib.ListN.{length, length-set}
-use native.Mathlib.Omega.{arith}
-use Prim.Native.Nat.{pred, _-_, _≤_}
-use mathlib.Core.Path.{_≡_, refl}
 use borrow.Author.Needs.{needs}
 use Rattle.load.proofs.cells.write_column.Statement.{statement}
 use Rattle.load.proofs.cells.write_column.Tie as tie
+use mathlib.Core.Path.{_≡_, refl, ap, _∙_}
+use Prim.Native.Nat.{ℕ, pred, _-_, _≤_}
+use native.Mathlib.Omega.{arith}
+use Rattle.table.specs.Rows.{boundOf}
+use Rattle.table.proofs.RowLaws.{column-there}
+use Rattle.table.proofs.PlanLaws.{bound-first}
+use Rattle.taken.specs.Numbers.{numberBy}
+use Rattle.load.specs.Cells.{cellOf}
+use Rattle.load.proofs.CellLaws.{Ready, ready, Written, written-next, written-all, turn}
 
 abbrev Inv-loop : tie.InvT-loop
-Inv-loop file index column out₀ rows order first width letter offset plan slots start₀ i₀ out start i =
-    (i ≤ rows) × (start ≡ boundBy order index first width i)
-    × (out ≡ front (columnCellBy order file index first width plan slots column letter offset) i out₀) × (length out ≡ length out₀)
+Inv-loop file index column out₀ layout rows order letter plan places₀ start₀ i₀ out places start i =
+    (i ≤ rows) × (start ≡ boundOf layout index i) × Ready layout places × Written (cellOf file index layout column) i out₀ out
 
 abbrev μ-loop : tie.MeasureT-loop
-μ-loop file index column out₀ rows order first width letter offset plan slots start₀ i₀ out start i =
-    rows - i
+μ-loop file index column out₀ layout rows order letter plan places₀ start₀ i₀ out places start i = rows - i
 
 sub-c : tie.Need-sub-c Inv-loop μ-loop
 sub-c c =
@@ -36,83 +33,75 @@ element-copy-out-c c =
     let start = c .before .before .before .before in
     let d = column-there (start .args .table .layout) (start .args .column) (start .pre .1 .1 .0) in omega arith
 
-slot-for-requires : tie.Need-slot-for-requires Inv-loop μ-loop
-slot-for-requires c κs =
-    let start = c .before .before .before .before .before .before .before .before in
-    column-there (start .args .table .layout) (start .args .column) (start .pre .1 .1 .0)
-
 loop-holds : tie.Need-loop-holds Inv-loop μ-loop
 loop-holds c =
-    let start = c .before .before .before .before .before .before .before .before .before in
+    let start = c .before .before .before .before .before .before .before .before in
     let l = start .args .table .layout in
-    (omega arith, bound-first (l .order) (start .args .index .now) (l .start) (l .width), refl, refl)
+    (omega arith, bound-first (start .args .index .now) l, ready l _ (c .offsets-of .ensures), (refl, refl))
+
+sub-place-within : tie.Need-sub-place-within Inv-loop μ-loop
+sub-place-within c =
+    let back12 = c .before .before .before .before .before .before .before .before .before .before .before .before in
+    let start = back12 .before .before in
+    let d = column-there (start .args .table .layout) (start .args .column) (start .pre .1 .1 .0) in omega arith
+
+mul-place-within : tie.Need-mul-place-within Inv-loop μ-loop
+mul-place-within c =
+    let back12 = c .before .before .before .before .before .before .before .before .before .before .before .before in
+    let start = back12 .before .before in
+    let d = column-there (start .args .table .layout) (start .args .column) (start .pre .1 .1 .0) in omega arith
+
+array-read-place-within : tie.Need-array-read-place-within Inv-loop μ-loop
+array-read-place-within c =
+    let at-bound-by = c .before .before .before in let at-loop-test = at-bound-by .before in
+    let at-loop = at-loop-test .before in let at-plan-of = at-loop .before .before in
+    let start = at-plan-of .before .before .before .before .before .before .before in let s = start .args in
+    let l = s .table .layout in let b = at-loop .loop in
+    let d = column-there l (s .column) (start .pre .1 .1 .0) in
+    let t = turn (s .file .now) (s .index .now) l (s .table .rows) (start .pre .1 .0) (start .pre .0) (b .i) (b .start)
+    (at-bound-by .bound-by .result) (at-loop-test .loop-test .taken) (b .inv .1) (at-bound-by .bound-by .ensures) (at-plan-of .plan-of .result)
+    (at-plan-of .plan-of .ensures) (s .column) (c .walk-row .result) (b .places) _ (b .inv .2) (c .walk-row .ensures .0)
+    (c .walk-row .ensures .1) in
+    omega (arith, d .0, d .1, t .still .0)
 
 loop-again : tie.Need-loop-again Inv-loop μ-loop
 loop-again c =
-    let at-bound-by = c .before .before .before in
-    let at-loop-test = at-bound-by .before in
-    let at-loop = at-loop-test .before in
-    let at-slot-for = at-loop .before in
-    let at-plan-of = at-slot-for .before in
-    let at-letter = at-plan-of .before .before in
-    let start = at-letter .before .before .before .before .before .before in
-    let s = start .args in
-    let l = s .table .layout in
-    let b = at-loop .loop in
-    let few = start .pre .0 in
-    let more = at-loop-test .loop-test .taken in
-    let plan = at-plan-of .plan-of .result in
-    let slots = at-slot-for .slot-for .result in (
+    let at-put = c .before .before in let at-number-by = at-put .before .before in
+    let at-place-within = at-number-by .before in let at-walk-row = at-place-within .before in
+    let at-bound-by = at-walk-row .before .before .before in let at-loop-test = at-bound-by .before in
+    let at-loop = at-loop-test .before in let at-plan-of = at-loop .before .before in
+    let at-letter = at-plan-of .before in let start = at-letter .before .before .before .before .before .before in
+    let s = start .args in let l = s .table .layout in let b = at-loop .loop in
+    let d = column-there l (s .column) (start .pre .1 .1 .0) in
+    let q : pred (s .column) ≡ s .column - 1 = omega arith in
+    let t = turn (s .file .now) (s .index .now) l (s .table .rows) (start .pre .1 .0) (start .pre .0) (b .i) (b .start)
+    (at-bound-by .bound-by .result) (at-loop-test .loop-test .taken) (b .inv .1) (at-bound-by .bound-by .ensures) (at-plan-of .plan-of .result)
+    (at-plan-of .plan-of .ensures) (s .column) (at-walk-row .walk-row .result) (b .places) _ (b .inv .2) (at-walk-row .walk-row .ensures .0)
+    (at-walk-row .walk-row .ensures .1) in
+    let v = at-number-by .number-by .ensures
+    ∙ ap (λ (p : ℕ). numberBy (l .order) (s .file .now) (at-letter .letter .result) p (at-bound-by .bound-by .result))
+    (at-place-within .place-within .ensures) in (
       omega arith,
-      ends-at (l .order) (s .index .now) (l .start) (l .width) (s .table .rows) (b .i) (b .start) (at-bound-by .bound-by .result) few more (b .inv .1)
-          (at-bound-by .bound-by .ensures),
-      front-next (columnCellBy (l .order) (s .file .now) (s .index .now) (l .start) (l .width) plan slots (s .column) (at-letter .letter .result) _)
-          (b .i) _ (b .out) (s .out .now) (b .inv .2)
-          (one-from (l .order) (s .index .now) (l .start) (l .width) (s .table .rows) (b .i) (b .start) (at-bound-by .bound-by .result) few more
-          (b .inv .1) (at-bound-by .bound-by .ensures) (s .file .now) plan slots (s .column) (at-letter .letter .result) _ _ (c .column-cell .ensures))
-          (omega (arith, start .pre .1 .1 .1)),
-      simp length-set (b .inv .3),
+      t .ends,
+      t .still,
+      written-next (cellOf (s .file .now) (s .index .now) l (s .column)) (b .i) _ (s .out .now) (b .out) _ (b .inv .3) (at-put .put .ensures)
+          (t .cell (s .column) (start .pre .1 .1 .0) (omega arith) (at-letter .letter .result) _ (rw q (at-letter .letter .ensures)) v)
+          (omega (arith, at-loop-test .loop-test .taken, start .pre .1 .1 .1)),
     )
 
 returns : tie.Need-returns Inv-loop μ-loop
 returns c =
     let at-loop = c .before in
-    let at-slot-for = at-loop .before in
-    let at-plan-of = at-slot-for .before in
-    let at-letter = at-plan-of .before .before in
-    let start = at-letter .before .before .before .before .before .before in
-    let s = start .args in
-    let l = s .table .layout in
-    let b = at-loop .loop in
-    let d = column-there l (s .column) (start .pre .1 .1 .0) in
-    let q : pred (s .column) ≡ s .column - 1 = omega arith in
+    let start = at-loop .before .before .before .before .before .before .before .before .before in
+    let s = start .args in let b = at-loop .loop in
     let all : b .i ≡ s .table .rows = omega arith in
-    column-written (s .file .now) (s .index .now) l (s .table .rows) (start .pre .1 .0) (at-plan-of .plan-of .result) (at-plan-of .plan-of .ensures)
-    (s .column) (start .pre .1 .1 .0) (at-slot-for .slot-for .result) (at-slot-for .slot-for .ensures) (at-letter .letter .result) _ (rw q
-    (at-letter .letter .ensures)) (rw q) (b .i) (s .out .now) (b .out) all (b .inv .2)
+    written-all (cellOf (s .file .now) (s .index .now) (s .table .layout) (s .column)) (b .i) (s .table .rows)
+    (s .out .now) (b .out) (b .inv .3) all
 
 pub write-column-spec : {M : Type 1} → statement M
 write-column-spec =
     tie.close
-    (tie.spec
-    Inv-loop
-    μ-loop
-    sub-c
-    mul-c
-    element-copy-out-c
-    (λ c κs. search needs)
-    (λ c. search needs)
-    (λ c κs. search needs)
-    slot-for-requires
-    (λ c. search needs)
-    loop-holds
-    (λ c. search needs)
-    (λ c κs. search needs)
-    (λ c κs. search needs)
-    (λ c. search needs)
-    (λ c. search needs)
-    (λ c. search needs)
-    (λ c. search needs)
-    loop-again
-    (λ c. search needs)
-    returns)
+    (tie.spec Inv-loop μ-loop sub-c mul-c element-copy-out-c (λ c κs. search needs) (λ c κs. search needs)
+    (λ c κs. search needs) (λ c. search needs) loop-holds (λ c. search needs) (λ c κs. search needs)
+    (λ c κs. search needs) sub-place-within mul-place-within array-read-place-within (λ c κs. search needs)
+    (λ c κs. search needs) (λ c κs. search needs) (λ c. search needs) (λ c. search needs) loop-again (λ c. search needs) returns)

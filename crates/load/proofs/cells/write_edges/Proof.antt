@@ -1,176 +1,124 @@
-use Rattle.load.proofs.CellLaws.{edgeCellBy, six-there, ends-at, six-from, edge-written}
-use Rattle.table.proofs.PlanLaws.{bound-first}
-use Rattle.table.specs.Plans.{boundBy}
-use Rattle.laws.proofs.BufferLaws.{front-next}
-use Rattle.laws.specs.Buffer.{front}
-use lib.ListN.{length, length-set}
-use native.Mathlib.Omega.{arith}
-use Prim.Native.Nat.{_-_, _≤_}
-use mathlib.Core.Path.{_≡_, refl}
 use borrow.Author.Needs.{needs}
 use Rattle.load.proofs.cells.write_edges.Statement.{statement}
 use Rattle.load.proofs.cells.write_edges.Tie as tie
+use mathlib.Core.Path.{_≡_, refl}
+use Prim.Native.Nat.{_-_, _≤_, ℕ}
+use native.Mathlib.Omega.{arith}
+use Rattle.table.specs.Rows.{boundOf}
+use Rattle.table.proofs.PlanLaws.{bound-first}
+use Rattle.load.specs.Sources.{atPlace}
+use Rattle.load.specs.Cells.{cellOf}
+use Rattle.load.proofs.CellLaws.{six-there, Ready, ready, Written, written-next, written-all, turn, cells-read}
 
 abbrev Inv-loop : tie.InvT-loop
-Inv-loop file index start-node₀ end-node₀ right-face₀ left-face₀ right-edge₀ left-edge₀ columns rows order first width n plan slots letters offsets start₀ i₀ start-node end-node right-face left-face right-edge left-edge start i =
-    (i ≤ rows) × (start ≡ boundBy order index first width i)
-    × (start-node ≡ front (edgeCellBy order file index first width plan slots letters offsets columns n 0) i start-node₀) × (length start-node ≡ length start-node₀)
-    × (end-node ≡ front (edgeCellBy order file index first width plan slots letters offsets columns n 1) i end-node₀) × (length end-node ≡ length end-node₀)
-    × (right-face ≡ front (edgeCellBy order file index first width plan slots letters offsets columns n 2) i right-face₀) × (length right-face ≡ length right-face₀)
-    × (left-face ≡ front (edgeCellBy order file index first width plan slots letters offsets columns n 3) i left-face₀) × (length left-face ≡ length left-face₀)
-    × (right-edge ≡ front (edgeCellBy order file index first width plan slots letters offsets columns n 4) i right-edge₀) × (length right-edge ≡ length right-edge₀)
-    × (left-edge ≡ front (edgeCellBy order file index first width plan slots letters offsets columns n 5) i left-edge₀) × (length left-edge ≡ length left-edge₀)
+Inv-loop file index sn₀ en₀ rf₀ lf₀ re₀ le₀ columns layout rows order plan letters places₀ start₀ i₀ sn en rf lf re le places start i =
+    (i ≤ rows) × (start ≡ boundOf layout index i) × Ready layout places
+    × Written (cellOf file index layout (atPlace columns 1)) i sn₀ sn
+    × Written (cellOf file index layout (atPlace columns 2)) i en₀ en
+    × Written (cellOf file index layout (atPlace columns 3)) i rf₀ rf
+    × Written (cellOf file index layout (atPlace columns 4)) i lf₀ lf
+    × Written (cellOf file index layout (atPlace columns 5)) i re₀ re
+    × Written (cellOf file index layout (atPlace columns 6)) i le₀ le
 
 abbrev μ-loop : tie.MeasureT-loop
-μ-loop file index start-node₀ end-node₀ right-face₀ left-face₀ right-edge₀ left-edge₀ columns rows order first width n plan slots letters offsets start₀ i₀ start-node end-node right-face left-face right-edge left-edge start i =
-    rows - i
-
-edge-slots-requires : tie.Need-edge-slots-requires Inv-loop μ-loop
-edge-slots-requires c κs =
-    let start = c .before .before .before .before .before .before .before .before .before .before in
-    six-there (start .args .table .layout) (start .args .t4) (start .pre .1 .1 .0)
+μ-loop file index sn₀ en₀ rf₀ lf₀ re₀ le₀ columns layout rows order plan letters places₀ start₀ i₀ sn en rf lf re le places start i = rows - i
 
 edge-letters-requires : tie.Need-edge-letters-requires Inv-loop μ-loop
 edge-letters-requires c κs =
-    let start = c .before .before .before .before .before .before .before .before .before .before .before in
-    six-there (start .args .table .layout) (start .args .t4) (start .pre .1 .1 .0)
-
-edge-offsets-requires : tie.Need-edge-offsets-requires Inv-loop μ-loop
-edge-offsets-requires c κs =
-    let start = c .before .before .before .before .before .before .before .before .before .before .before .before in
+    let start = c .before .before .before .before .before .before .before .before .before .before in
     six-there (start .args .table .layout) (start .args .t4) (start .pre .1 .1 .0)
 
 loop-holds : tie.Need-loop-holds Inv-loop μ-loop
 loop-holds c =
-    let back-12 = c .before .before .before .before .before .before .before .before .before .before .before .before in
-    let start = back-12 .before in
-    let l = start .args .table .layout in
-    (omega arith, bound-first (l .order) (start .args .index .now) (l .start) (l .width), refl, refl, refl, refl, refl, refl, refl, refl, refl, refl, refl, refl)
+    let at-offsets-of = c .before in
+    let start = at-offsets-of .before .before .before .before .before .before .before .before .before .before .before .before in
+    let l = start .args .table .layout in (
+      omega arith,
+      bound-first (start .args .index .now) l,
+      ready l _ (at-offsets-of .offsets-of .ensures),
+      (refl, refl),
+      (refl, refl),
+      (refl, refl),
+      (refl, refl),
+      (refl, refl),
+      (refl, refl),
+    )
 
 edge-cells-requires : tie.Need-edge-cells-requires Inv-loop μ-loop
 edge-cells-requires c κs =
-    let at-edge-slots = c .before .before .before .before .before .before .before .before .before .before in
-    let start = at-edge-slots .before .before .before .before .before .before .before .before .before .before .before in
-    (six-there (start .args .table .layout) (start .args .t4) (start .pre .1 .1 .0), at-edge-slots .edge-slots .ensures)
+    let back12 = c .before .before .before .before .before .before .before .before .before .before .before .before in
+    let start = back12 .before .before .before .before .before .before .before .before .before .before in
+    six-there (start .args .table .layout) (start .args .t4) (start .pre .1 .1 .0)
 
-slice-write-start-node : tie.Need-slice-write-start-node Inv-loop μ-loop
-slice-write-start-node c =
-    let at-loop-test = c .before .before .before .before .before .before .before in
-    let at-loop = at-loop-test .before in
-    let back-20 = at-loop .before .before .before .before .before .before .before .before .before .before .before .before in
-    let start = back-20 .before .before in
-    omega (arith, at-loop-test .loop-test .taken, at-loop .loop .inv .3, start .pre .1 .1 .1 .0)
+add-i : tie.Need-add-i Inv-loop μ-loop
+add-i c =
+    let back12 = c .before .before .before .before .before .before .before .before .before .before .before .before in
+    let back24 = back12 .before .before .before .before .before .before .before .before .before .before .before .before in
+    let at-loop-test = back24 .before .before .before .before .before .before .before .before in
+    let back44 = at-loop-test .before .before .before .before .before .before .before .before .before .before .before .before in
+    let start = back44 .before .before .before in
+    omega (arith, at-loop-test .loop-test .taken, start .pre .0)
 
-slice-write-end-node : tie.Need-slice-write-end-node Inv-loop μ-loop
-slice-write-end-node c =
-    let at-loop-test = c .before .before .before .before .before .before .before in
-    let at-loop = at-loop-test .before in
-    let back-20 = at-loop .before .before .before .before .before .before .before .before .before .before .before .before in
-    let start = back-20 .before .before in
-    omega (arith, at-loop-test .loop-test .taken, at-loop .loop .inv .5, start .pre .1 .1 .1 .1)
-
-slice-write-right-face : tie.Need-slice-write-right-face Inv-loop μ-loop
-slice-write-right-face c =
-    let at-loop-test = c .before .before .before .before .before .before .before in
-    let at-loop = at-loop-test .before in
-    let back-20 = at-loop .before .before .before .before .before .before .before .before .before .before .before .before in
-    let start = back-20 .before .before in
-    omega (arith, at-loop-test .loop-test .taken, at-loop .loop .inv .7, start .pre .1 .1 .1 .2)
-
-slice-write-left-face : tie.Need-slice-write-left-face Inv-loop μ-loop
-slice-write-left-face c =
-    let at-loop-test = c .before .before .before .before .before .before .before in
-    let at-loop = at-loop-test .before in
-    let back-20 = at-loop .before .before .before .before .before .before .before .before .before .before .before .before in
-    let start = back-20 .before .before in
-    omega (arith, at-loop-test .loop-test .taken, at-loop .loop .inv .9, start .pre .1 .1 .1 .3)
-
-slice-write-right-edge : tie.Need-slice-write-right-edge Inv-loop μ-loop
-slice-write-right-edge c =
-    let at-loop-test = c .before .before .before .before .before .before .before in
-    let at-loop = at-loop-test .before in
-    let back-20 = at-loop .before .before .before .before .before .before .before .before .before .before .before .before in
-    let start = back-20 .before .before in
-    omega (arith, at-loop-test .loop-test .taken, at-loop .loop .inv .11, start .pre .1 .1 .1 .4)
-
-slice-write-left-edge : tie.Need-slice-write-left-edge Inv-loop μ-loop
-slice-write-left-edge c =
-    let at-loop-test = c .before .before .before .before .before .before .before in
-    let at-loop = at-loop-test .before in
-    let back-20 = at-loop .before .before .before .before .before .before .before .before .before .before .before .before in
-    let start = back-20 .before .before in
-    omega (arith, at-loop-test .loop-test .taken, at-loop .loop .inv .13, start .pre .1 .1 .1 .5)
+loop-less : tie.Need-loop-less Inv-loop μ-loop
+loop-less c =
+    let back12 = c .before .before .before .before .before .before .before .before .before .before .before .before in
+    let back24 = back12 .before .before .before .before .before .before .before .before .before .before .before .before in
+    let at-loop-test = back24 .before .before .before .before .before .before .before .before in
+    omega (arith, at-loop-test .loop-test .taken)
 
 loop-again : tie.Need-loop-again Inv-loop μ-loop
 loop-again c =
-    let at-bound-by = c .before .before .before .before .before .before in
-    let at-loop-test = at-bound-by .before in
-    let at-loop = at-loop-test .before in
-    let at-edge-offsets = at-loop .before in
-    let at-edge-letters = at-edge-offsets .before in
-    let at-edge-slots = at-edge-letters .before in
-    let at-plan-of = at-edge-slots .before in
+    let at-put6 = c .before .before in let at-put5 = at-put6 .before .before .before .before in
+    let at-put4 = at-put5 .before .before .before .before in let at-put3 = at-put4 .before .before .before .before in
+    let at-put2 = at-put3 .before .before .before .before in let at-put = at-put2 .before .before .before .before in
+    let at-edge-cells = at-put .before .before in let at-walk-row = at-edge-cells .before .before .before .before in
+    let at-bound-by = at-walk-row .before .before .before in let at-loop-test = at-bound-by .before in
+    let at-loop = at-loop-test .before in let at-edge-letters = at-loop .before .before .before in
+    let at-plan-of = at-edge-letters .before in
     let start = at-plan-of .before .before .before .before .before .before .before .before .before .before in
-    let s = start .args in
-    let l = s .table .layout in
-    let b = at-loop .loop in
-    let h = start .pre .1 .1 .1 in
-    let few = start .pre .0 in
-    let more = at-loop-test .loop-test .taken in
-    let plan = at-plan-of .plan-of .result in
-    let slots = at-edge-slots .edge-slots .result in
-    let letters = at-edge-letters .edge-letters .result in
-    let offsets = at-edge-offsets .edge-offsets .result in
-    let v = six-from (l .order) (s .index .now) (l .start) (l .width) (s .table .rows) (b .i) (b .start) (at-bound-by .bound-by .result) few more
-    (b .inv .1) (at-bound-by .bound-by .ensures) (s .file .now) plan slots letters offsets (s .t4) (c .edge-cells .result) (l .columns) (c .edge-cells .ensures) in (
+    let s = start .args in let l = s .table .layout in let b = at-loop .loop in let h = start .pre .1 .1 .1 in
+    let g : ℕ → ℕ → ℕ = λ k. cellOf (s .file .now) (s .index .now) l (atPlace (s .t4) k) in
+    let t = turn (s .file .now) (s .index .now) l (s .table .rows) (start .pre .1 .0) (start .pre .0) (b .i) (b .start)
+    (at-bound-by .bound-by .result) (at-loop-test .loop-test .taken) (b .inv .1) (at-bound-by .bound-by .ensures) (at-plan-of .plan-of .result)
+    (at-plan-of .plan-of .ensures) (l .columns) (at-walk-row .walk-row .result) (b .places) _ (b .inv .2) (at-walk-row .walk-row .ensures .0)
+    (at-walk-row .walk-row .ensures .1) in
+    let v = cells-read (s .file .now) (s .index .now) l (b .i) (l .columns) _ _ _ (s .t4) (at-edge-letters .edge-letters .result)
+    (at-edge-cells .edge-cells .result) t (start .pre .1 .1 .0) (omega arith) (at-edge-letters .edge-letters .ensures)
+    (at-edge-cells .edge-cells .ensures) in (
       omega arith,
-      ends-at (l .order) (s .index .now) (l .start) (l .width) (s .table .rows) (b .i) (b .start) (at-bound-by .bound-by .result) few more (b .inv .1)
-          (at-bound-by .bound-by .ensures),
-      front-next (edgeCellBy (l .order) (s .file .now) (s .index .now) (l .start) (l .width) plan slots letters offsets (s .t4) (l .columns) 0)
-          (b .i) _ (b .start-node) (s .start-node .now) (b .inv .2) (v 0) (omega (arith, h .0)),
-      simp length-set (b .inv .3),
-      front-next (edgeCellBy (l .order) (s .file .now) (s .index .now) (l .start) (l .width) plan slots letters offsets (s .t4) (l .columns) 1)
-          (b .i) _ (b .end-node) (s .end-node .now) (b .inv .4) (v 1) (omega (arith, h .1)),
-      simp length-set (b .inv .5),
-      front-next (edgeCellBy (l .order) (s .file .now) (s .index .now) (l .start) (l .width) plan slots letters offsets (s .t4) (l .columns) 2)
-          (b .i) _ (b .right-face) (s .right-face .now) (b .inv .6) (v 2) (omega (arith, h .2)),
-      simp length-set (b .inv .7),
-      front-next (edgeCellBy (l .order) (s .file .now) (s .index .now) (l .start) (l .width) plan slots letters offsets (s .t4) (l .columns) 3)
-          (b .i) _ (b .left-face) (s .left-face .now) (b .inv .8) (v 3) (omega (arith, h .3)),
-      simp length-set (b .inv .9),
-      front-next (edgeCellBy (l .order) (s .file .now) (s .index .now) (l .start) (l .width) plan slots letters offsets (s .t4) (l .columns) 4)
-          (b .i) _ (b .right-edge) (s .right-edge .now) (b .inv .10) (v 4) (omega (arith, h .4)),
-      simp length-set (b .inv .11),
-      front-next (edgeCellBy (l .order) (s .file .now) (s .index .now) (l .start) (l .width) plan slots letters offsets (s .t4) (l .columns) 5)
-          (b .i) _ (b .left-edge) (s .left-edge .now) (b .inv .12) (v 5) (omega (arith, h .5)),
-      simp length-set (b .inv .13),
+      t .ends,
+      t .still,
+      written-next (g 1) (b .i) _ (s .start-node .now) (b .start-node) _ (b .inv .3) (at-put .put .ensures)
+          (v 0 (omega arith)) (omega (arith, at-loop-test .loop-test .taken, h .0)),
+      written-next (g 2) (b .i) _ (s .end-node .now) (b .end-node) _ (b .inv .4) (at-put2 .put2 .ensures)
+          (v 1 (omega arith)) (omega (arith, at-loop-test .loop-test .taken, h .1)),
+      written-next (g 3) (b .i) _ (s .right-face .now) (b .right-face) _ (b .inv .5) (at-put3 .put3 .ensures)
+          (v 2 (omega arith)) (omega (arith, at-loop-test .loop-test .taken, h .2)),
+      written-next (g 4) (b .i) _ (s .left-face .now) (b .left-face) _ (b .inv .6) (at-put4 .put4 .ensures)
+          (v 3 (omega arith)) (omega (arith, at-loop-test .loop-test .taken, h .3)),
+      written-next (g 5) (b .i) _ (s .right-edge .now) (b .right-edge) _ (b .inv .7) (at-put5 .put5 .ensures)
+          (v 4 (omega arith)) (omega (arith, at-loop-test .loop-test .taken, h .4)),
+      written-next (g 6) (b .i) _ (s .left-edge .now) (b .left-edge) _ (b .inv .8) (at-put6 .put6 .ensures)
+          (v 5 (omega arith)) (omega (arith, at-loop-test .loop-test .taken, h .5)),
     )
 
 returns : tie.Need-returns Inv-loop μ-loop
 returns c =
     let at-loop = c .before in
-    let at-edge-offsets = at-loop .before in
-    let at-edge-letters = at-edge-offsets .before in
-    let at-edge-slots = at-edge-letters .before in
-    let at-plan-of = at-edge-slots .before in
-    let start = at-plan-of .before .before .before .before .before .before .before .before .before .before in
-    let s = start .args in
-    let b = at-loop .loop in
-    let all : b .i ≡ s .table .rows = omega arith in
-    let w = edge-written (s .file .now) (s .index .now) (s .table .layout) (s .table .rows) (start .pre .1 .0) (at-plan-of .plan-of .result)
-    (at-plan-of .plan-of .ensures) (s .t4) (at-edge-slots .edge-slots .result) (at-edge-letters .edge-letters .result)
-    (at-edge-offsets .edge-offsets .result) (start .pre .1 .1 .0) (at-edge-slots .edge-slots .ensures) (at-edge-letters .edge-letters .ensures)
-    (at-edge-offsets .edge-offsets .ensures) in (
-      w 0 (omega arith) (b .i) (s .start-node .now) (b .start-node) all (b .inv .2),
+    let back13 = at-loop .before .before .before .before .before .before .before .before .before .before .before .before in
+    let start = back13 .before .before in let s = start .args in let b = at-loop .loop in
+    let g : ℕ → ℕ → ℕ = λ k. cellOf (s .file .now) (s .index .now) (s .table .layout) (atPlace (s .t4) k) in
+    let all : b .i ≡ s .table .rows = omega arith in (
+      written-all (g 1) (b .i) (s .table .rows) (s .start-node .now) (b .start-node) (b .inv .3) all,
       (
-        w 1 (omega arith) (b .i) (s .end-node .now) (b .end-node) all (b .inv .4),
+        written-all (g 2) (b .i) (s .table .rows) (s .end-node .now) (b .end-node) (b .inv .4) all,
         (
-          w 2 (omega arith) (b .i) (s .right-face .now) (b .right-face) all (b .inv .6),
+          written-all (g 3) (b .i) (s .table .rows) (s .right-face .now) (b .right-face) (b .inv .5) all,
           (
-            w 3 (omega arith) (b .i) (s .left-face .now) (b .left-face) all (b .inv .8),
+            written-all (g 4) (b .i) (s .table .rows) (s .left-face .now) (b .left-face) (b .inv .6) all,
             (
-              w 4 (omega arith) (b .i) (s .right-edge .now) (b .right-edge) all (b .inv .10),
-              w 5 (omega arith) (b .i) (s .left-edge .now) (b .left-edge) all (b .inv .12),
+              written-all (g 5) (b .i) (s .table .rows) (s .right-edge .now) (b .right-edge) (b .inv .7) all,
+              (written-all (g 6) (b .i) (s .table .rows) (s .left-edge .now) (b .left-edge) (b .inv .8) all),
             ),
           ),
         ),
@@ -180,43 +128,9 @@ returns c =
 pub write-edges-spec : {M : Type 1} → statement M
 write-edges-spec =
     tie.close
-    (tie.spec
-    Inv-loop
-    μ-loop
-    (λ c κs. search needs)
-    edge-slots-requires
-    edge-letters-requires
-    edge-offsets-requires
-    (λ c. search needs)
-    loop-holds
-    (λ c. search needs)
-    (λ c κs. search needs)
-    edge-cells-requires
-    (λ c. search needs)
-    (λ c. search needs)
-    slice-write-start-node
-    (λ c. search needs)
-    (λ c. search needs)
-    slice-write-end-node
-    (λ c. search needs)
-    (λ c. search needs)
-    slice-write-right-face
-    (λ c. search needs)
-    (λ c. search needs)
-    slice-write-left-face
-    (λ c. search needs)
-    (λ c. search needs)
-    slice-write-right-edge
-    (λ c. search needs)
-    (λ c. search needs)
-    slice-write-left-edge
-    (λ c. search needs)
-    (λ c. search needs)
-    loop-again
-    (λ c. search needs)
-    (λ c. search needs)
-    (λ c. search needs)
-    (λ c. search needs)
-    (λ c. search needs)
-    (λ c. search needs)
-    returns)
+    (tie.spec Inv-loop μ-loop (λ c κs. search needs) edge-letters-requires (λ c κs. search needs)
+    (λ c. search needs) loop-holds (λ c. search needs) (λ c κs. search needs) (λ c κs. search needs) edge-cells-requires
+    (λ c. search needs) (λ c κs. search needs) (λ c. search needs) (λ c κs. search needs) (λ c. search needs)
+    (λ c κs. search needs) (λ c. search needs) (λ c κs. search needs) (λ c. search needs) (λ c κs. search needs)
+    (λ c. search needs) (λ c κs. search needs) add-i loop-less loop-again (λ c. search needs) (λ c. search needs)
+    (λ c. search needs) (λ c. search needs) (λ c. search needs) (λ c. search needs) returns)

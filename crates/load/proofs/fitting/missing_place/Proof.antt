@@ -19,17 +19,16 @@ loop-holds c = (omega arith, none-start (missing ((c .args) .t1)))
 
 returns : tie.Need-returns Inv-loop μ-loop
 returns c =
-    let at-loop-test = c .before in
-    let at-loop = at-loop-test .before in
-    let start = at-loop .before in
-    lowest-next (missing (start .args .t1)) 10 (at-loop .loop .i) (at-loop-test .loop-test .taken) (at-loop .loop .inv .1) (eq-eqb _ 0 (c .if1 .taken))
+    let at-loop-test = c .before in let at-loop = at-loop-test .before in let start = at-loop .before in
+    lowest-next (missing (start .args .t1)) 10 (at-loop .loop .i) (at-loop-test .loop-test .taken)
+    (at-loop .loop .inv .1) (eq-eqb _ 0 (c .if1 .taken))
 
 loop-again : tie.Need-loop-again Inv-loop μ-loop
 loop-again c =
-    let at-loop-test = c .before in
-    let at-loop = at-loop-test .before in
-    let start = at-loop .before in
-    (omega (arith, at-loop-test .loop-test .taken), none-next (missing (start .args .t1)) (at-loop .loop .i) (at-loop .loop .inv .1) (ne-eqb _ 0 (c .if1 .left)))
+    let at-loop-test = c .before in let at-loop = at-loop-test .before in let start = at-loop .before in (
+      omega (arith, at-loop-test .loop-test .taken),
+      none-next (missing (start .args .t1)) (at-loop .loop .i) (at-loop .loop .inv .1) (ne-eqb _ 0 (c .if1 .left)),
+    )
 
 returns-2 : tie.Need-returns-2 Inv-loop μ-loop
 returns-2 c = lowest-ended (missing ((c .before .before .args) .t1)) 10 ((c .before .loop) .i) ((c .loop-test) .left) ((c .before .loop) .inv .0)
@@ -38,15 +37,5 @@ returns-2 c = lowest-ended (missing ((c .before .before .args) .t1)) 10 ((c .bef
 pub missing-place-spec : {M : Type 1} → statement M
 missing-place-spec =
     tie.close
-    (tie.spec
-    Inv-loop
-    μ-loop
-    loop-holds
-    (λ c. search needs)
-    (λ c. search needs)
-    (λ c. search needs)
-    returns
-    (λ c. search needs)
-    (λ c. search needs)
-    loop-again
-    returns-2)
+    (tie.spec Inv-loop μ-loop loop-holds (λ c. search needs) (λ c. search needs) (λ c. search needs) returns
+    (λ c. search needs) (λ c. search needs) loop-again returns-2)

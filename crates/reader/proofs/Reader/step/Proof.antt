@@ -67,7 +67,8 @@ behind = plain (λ κs. T.the-row (namedLft 2 1 tt κs))
 abbrev stayed : Stays (step.ended .signature .params) (step.ended .kept)
 stayed = (stay-ref (0 ∷ []) tt behind, tt)
 
-module _ {M : Type 1} (𝓤 : URA M) (H : Heap 𝓤) (A : Atoms 𝓤) (W : Given 𝓤 H A) (at-mem : Memory → SProp 𝓤) (run : Routine → Fun 𝓤) (C : Calls 𝓤 H) (Λ : Loops 𝓤 H) (fm : FmC 𝓤 H (W .laws) C)
+module _ {M : Type 1} (𝓤 : URA M) (H : Heap 𝓤) (A : Atoms 𝓤) (W : Given 𝓤 H A) (at-mem : Memory → SProp 𝓤) (run : Routine → Fun 𝓤)
+    (C : Calls 𝓤 H) (Λ : Loops 𝓤 H) (fm : FmC 𝓤 H (W .laws) C)
     (known : Triple 𝓤 (C #reader·step-at) (Of 𝓤 H A step-at.ended (step-at.clauses 𝓤 H A at-mem run)))
     (κ κ′ : Lft) (q q′ : Share) (bounds : AllOutlive 2 (step.signature .outlives) (κ, (κ′, tt))) (b o : ℕ) (γ : GName) (h : Reader) where
   -- 'a, and the reader's type at it
@@ -104,38 +105,58 @@ module _ {M : Type 1} (𝓤 : URA M) (H : Heap 𝓤) (A : Atoms 𝓤) (W : Given
   place-fits m u is = LL.owed K.the-type K′.the-laws m (u ∷ []) is .1 .0 .1
 
   exits : (m : Moved) (u : Val) → Is K.the-row m (u ∷ []) → m ≡ movedFrom (now (h .file)) (h .at)
-      → ent 𝓤 (⋆ 𝓤 H A (‵ (fobs γ (R .coded .code (readerAt (h .file) (m .at)))) ∷ ‵ (fbor κ (Body (mem R) b o γ)) ∷ ‵ (flft κ q) ∷ raw Tok ∷ [])) (Post (step-of m))
+      → ent 𝓤 (⋆ 𝓤 H A (‵ (fobs γ (R .coded .code (readerAt (h .file) (m .at)))) ∷ ‵ (fbor κ (Body (mem R) b o γ)) ∷ ‵ (flft κ q)
+      ∷ raw Tok ∷ [])) (Post (step-of m))
   exits m u is e =
       qed W (‵ (fobs γ (R .coded .code (readerAt (h .file) (m .at)))) ∷ ‵ (fbor κ (Body (mem R) b o γ)) ∷ ‵ (flft κ q) ∷ raw Tok ∷ []) ∵
-      suffices ! _ (ends-at 𝓤 H A step.ended stayed (step.clauses 𝓤 H A at-mem run) W (((κ, (κ′, tt)), (q, (q′, tt)), bounds, x, at), tt) (step-of m) (m .step) (readerAt (h .file) (m .at), tt) (tt, tt)) $
-      says ! {φ = (m .step ≡ gives h) × (readerAt (h .file) (m .at) ≡ moved h)} (ap (λ (n : Moved). n .step) e, ap (λ (n : Moved). readerAt (h .file) (n .at)) e) $
-      move ! (2 ∷ 3 ∷ []) $ join ! $ frame ! $ feqI ! (List Val) (vptr b o ∷ []) (vptr b o ∷ []) refl $ fjoin3 ! $ nothing ! $ move ! (1 ∷ 0 ∷ []) $ fjoin ! $
-      owned ! S.the-row (Is S.the-row) (EL.makes S.the-type S′.the-plain 𝓤 H A) (m .step) (step-of m ∷ []) (is-step m u is) $ move ! (1 ∷ 0 ∷ []) $ done !
+      suffices ! _ (ends-at 𝓤 H A step.ended stayed (step.clauses 𝓤 H A at-mem run) W
+      (((κ, (κ′, tt)), (q, (q′, tt)), bounds, x, at), tt) (step-of m) (m .step) (readerAt (h .file) (m .at), tt) (tt, tt)) $
+      says ! {φ = (m .step ≡ gives h) × (readerAt (h .file) (m .at) ≡ moved h)}
+      (ap (λ (n : Moved). n .step) e, ap (λ (n : Moved). readerAt (h .file) (n .at)) e) $
+      move ! (2 ∷ 3 ∷ []) $ join ! $ frame ! $ feqI ! (List Val) (vptr b o ∷ []) (vptr b o ∷ []) refl $ fjoin3 ! $
+      nothing ! $ move ! (1 ∷ 0 ∷ []) $ fjoin ! $
+      owned ! S.the-row (Is S.the-row) (EL.makes S.the-type S′.the-plain 𝓤 H A) (m .step) (step-of m ∷ [])
+      (is-step m u is) $ move ! (1 ∷ 0 ∷ []) $ done !
 
   walk : ent 𝓤 (onEntry 𝓤 H A step.signature (κ, (κ′, tt)) (q, (q′, tt)) x at) (WpFn 𝓤 H C Λ code.function (vptr b o ∷ []) Post)
   walk =
       qed W ((‵ (flft κ q) ⊛ raw Tok) ∷ ‵ (owns (MutRef (named 0) κ R ∷ []) x at) ∷ []) ∵ enter ! C Λ code.function (vptr b o ∷ []) _ $
-      alloc1 ! (λ l₀. alloc1 ! (λ l₁. alloc1 ! (λ l₂. alloc1 ! (λ l₃. alloc1 ! (λ l₄. alloc0 ! $ params1 ! $ pass1 ! (init ! 6 refl (tt, tt)) $ pass0 ! $
+      alloc1 ! (λ l₀. alloc1 ! (λ l₁. alloc1 !
+      (λ l₂. alloc1 ! (λ l₃. alloc1 ! (λ l₄. alloc0 ! $ params1 ! $ pass1 ! (init ! 6 refl (tt, tt)) $ pass0 ! $
       -- the borrow is opened
       move ! (11 ∷ []) $ fsplit ! $ fsplit3 ! $ drop ! $ move ! (13 ∷ []) $ split ! $ move ! (2 ∷ 3 ∷ 0 ∷ []) $
-      opens ! tt R {h = h} b o (λ vs. spelt ! R (Is R) (shows 𝓤 H A R) (LL.vals (T.the-type α) (T′.the-laws α)) (LL.tells (T.the-type α) (T′.the-laws α)) fullShare h vs b o $
+      opens ! tt R {h = h} b o (λ vs. spelt ! R (Is R) (shows 𝓤 H A R) (LL.vals (T.the-type α) (T′.the-laws α))
+      (LL.tells (T.the-type α) (T′.the-laws α)) fullShare h vs b o $
       use1 W (‵ (fat fullShare (T′.mir erased) b o (value-of h))) (W .laws .raw-at fullShare (T′.mir erased) b o (value-of h)) $
       move ! (1 ∷ []) $ peeks ! R (Is R) (shows 𝓤 H A R) h (value-of h ∷ []) (λ was. move ! (1 ∷ 0 ∷ []) $
       -- [the reader's cell; what the reader owns; the open borrow; obs; auth; 'a's token; …; _4; …; _3; …; _2; …; _1; …; room for _0; …]
-      assigns ! (of-opd ! (load ! (from ! (hop ! (look ! 13 refl) (fld ! refl (stop !)))) (look-in ! 0 (sub ! 0 refl (whole !))))) (from ! (stop !)) (init ! 9 refl (tt, typed 𝓤 H A W α h was .1 .0)) $
-      assigns ! (of-opd ! (load ! (from ! (hop ! (look ! 13 refl) (fld ! refl (stop !)))) (look-in ! 0 (sub ! 1 refl (whole !))))) (from ! (stop !)) (init ! 7 refl (tt, typed 𝓤 H A W α h was .1 .1 .0)) $
-      move ! (1 ∷ 5 ∷ []) $ use2 W (raw (Of 𝓤 H A step-at.ended (step-at.clauses 𝓤 H A at-mem run) .pre to) ⊛ ‵ (Own 𝓤 H A W α h)) (lends 𝓤 H A W α h Tok (typed 𝓤 H A W α h was .1 .1 .0 .fits)) $ split ! $
-      answers ! fm step-at.ended (step-at.clauses 𝓤 H A at-mem run) known to (λ (m : Moved). m ≡ movedFrom (now (h .file)) (h .at)) (λ m e. id⊢ 𝓤 _) (and-then ! (load ! (from ! (stop !)) (look ! 9 refl)) (and-then ! (load ! (from ! (stop !)) (look ! 7 refl)) (no-more !))) (λ u m e is.
+      assigns ! (of-opd ! (load ! (from ! (hop ! (look ! 13 refl) (fld ! refl (stop !)))) (look-in ! 0 (sub ! 0 refl (whole !)))))
+      (from ! (stop !)) (init ! 9 refl (tt, typed 𝓤 H A W α h was .1 .0)) $
+      assigns ! (of-opd ! (load ! (from ! (hop ! (look ! 13 refl) (fld ! refl (stop !)))) (look-in ! 0 (sub ! 1 refl (whole !)))))
+      (from ! (stop !)) (init ! 7 refl (tt, typed 𝓤 H A W α h was .1 .1 .0)) $
+      move ! (1 ∷ 5 ∷ []) $ use2 W (raw (Of 𝓤 H A step-at.ended (step-at.clauses 𝓤 H A at-mem run) .pre to) ⊛ ‵ (Own 𝓤 H A W α h))
+      (lends 𝓤 H A W α h Tok (typed 𝓤 H A W α h was .1 .1 .0 .fits)) $ split ! $
+      answers ! fm step-at.ended (step-at.clauses 𝓤 H A at-mem run) known to
+      (λ (m : Moved). m ≡ movedFrom (now (h .file)) (h .at)) (λ m e. id⊢ 𝓤 _)
+      (and-then ! (load ! (from ! (stop !)) (look ! 9 refl)) (and-then ! (load ! (from ! (stop !)) (look ! 7 refl)) (no-more !)))
+      (λ u m e is.
       -- [the answer's; 'a's token; what the reader owns; the reader's cell; the open borrow; obs; auth; …; _4; …; _3; …; _2; …; _1; …; room for _0; …]
-      land ! (from ! (stop !)) (init ! 12 refl (LL.lawful K.the-type K′.the-laws 𝓤 H A W .typed m _ is .0)) $ rewrite ! 12 (λ (v : Val). ‵ (fat fullShare K′.mir l₂ 0 v)) (ap only (LL.tells K.the-type K′.the-laws m (u ∷ []) is)) refl $
-      assigns ! (of-opd ! (load ! (from ! (fld ! refl (stop !))) (look-in ! 12 (sub ! 1 refl (whole !))))) (from ! (hop ! (look ! 14 refl) (fld ! refl (stop !)))) (store-in ! 3 (sub ! 1 refl (whole !)) (tt, record { fits = place-fits m u is })) $
-      assigns ! (of-opd ! (load ! (from ! (fld ! refl (stop !))) (look-in ! 12 (sub ! 0 refl (whole !))))) (from ! (stop !)) (init ! 16 refl (answer-typed 𝓤 H A W (m .step) (step-of m) (is-step m u is))) $
+      land ! (from ! (stop !)) (init ! 12 refl (LL.lawful K.the-type K′.the-laws 𝓤 H A W .typed m _ is .0)) $
+      rewrite ! 12 (λ (v : Val). ‵ (fat fullShare K′.mir l₂ 0 v)) (ap only (LL.tells K.the-type K′.the-laws m (u ∷ []) is)) refl $
+      assigns ! (of-opd ! (load ! (from ! (fld ! refl (stop !))) (look-in ! 12 (sub ! 1 refl (whole !)))))
+      (from ! (hop ! (look ! 14 refl) (fld ! refl (stop !))))
+      (store-in ! 3 (sub ! 1 refl (whole !)) (tt, record { fits = place-fits m u is })) $
+      assigns ! (of-opd ! (load ! (from ! (fld ! refl (stop !))) (look-in ! 12 (sub ! 0 refl (whole !))))) (from ! (stop !))
+      (init ! 16 refl (answer-typed 𝓤 H A W (m .step) (step-of m) (is-step m u is))) $
       -- the borrow is closed at the reader with the new number
-      move ! (2 ∷ []) $ use1 W (‵ (Own 𝓤 H A W α (readerAt (h .file) (m .at)))) (remade 𝓤 H A W α h (m .at) (place-fits m u is)) $ move ! (3 ∷ []) $ use1 W (‵ (cellAt fullShare (R .mir) (value-of (readerAt (h .file) (m .at)) ∷ []) b o)) (W .laws .at-raw fullShare (T′.mir erased) b o (value-of (readerAt (h .file) (m .at)))) $
+      move ! (2 ∷ []) $ use1 W (‵ (Own 𝓤 H A W α (readerAt (h .file) (m .at)))) (remade 𝓤 H A W α h (m .at) (place-fits m u is)) $
+      move ! (3 ∷ []) $ use1 W (‵ (cellAt fullShare (R .mir) (value-of (readerAt (h .file) (m .at)) ∷ []) b o))
+      (W .laws .at-raw fullShare (T′.mir erased) b o (value-of (readerAt (h .file) (m .at)))) $
       move ! (0 ∷ 1 ∷ 4 ∷ 5 ∷ 6 ∷ []) $ closes ! tt R (readerAt (h .file) (m .at)) (value-of (readerAt (h .file) (m .at)) ∷ []) b o $
       -- [obs; the borrow; its token; the answer's; 'a's token; …; _4; …; _3; …; _2; …; _1; …; _0; …]
       returns ! (look ! 14 refl) $ forget ! 6 refl $ forget ! 8 refl $ forget ! 10 refl $ forget ! 12 refl $ forget ! 14 refl $
-      move ! (14 ∷ 15 ∷ []) $ free1 ! $ move ! (12 ∷ 13 ∷ []) $ free1 ! $ move ! (10 ∷ 11 ∷ []) $ free1 ! $ move ! (8 ∷ 9 ∷ []) $ free1 ! $ move ! (6 ∷ 7 ∷ []) $ free1 ! $ free0 ! $
+      move ! (14 ∷ 15 ∷ []) $ free1 ! $ move ! (12 ∷ 13 ∷ []) $ free1 ! $ move ! (10 ∷ 11 ∷ []) $ free1 ! $ move ! (8 ∷ 9 ∷ []) $
+      free1 ! $ move ! (6 ∷ 7 ∷ []) $ free1 ! $ free0 ! $
       keep ! (0 ∷ 1 ∷ 2 ∷ 4 ∷ []) $ by ! (exits m u is e)))))))))
 
 pub step-spec : {M : Type 1} → stated.statement M
@@ -145,8 +166,11 @@ step-spec 𝓤 H 𝓜 𝓖 𝓡 =
     let 𝓣 : Tables 𝓤 H = tablesOf 𝓤 H 𝓜 (tables 𝓤 H 𝓜 𝓡 code.env) in
     entered 𝓤 H (tripleOf 𝓤 H (𝓖 .A) step.signature (step.spec 𝓤 H (𝓖 .A) (𝓜 .mem) (𝓡 .run)))
     (tables 𝓤 H 𝓜 𝓡 code.env .C) (tables 𝓤 H 𝓜 𝓡 code.env .Λ) #reader·step code.function (code.unfolded 𝓤 H 𝓜 𝓡)
-    (walk-meets 𝓤 H (𝓖 .A) step.ended stayed W (goes-ref 𝓤 H (𝓖 .A) W 2 0 tt behind, tt) (step.clauses 𝓤 H (𝓖 .A) (𝓜 .mem) (𝓡 .run)) (WpFn 𝓤 H (𝓣 .C) (𝓣 .Λ) code.function) (WpFn-mono 𝓤 H (W .laws) 𝓣 code.function)
-    (walked 𝓤 H (𝓖 .A) step.ended stayed (step.clauses 𝓤 H (𝓖 .A) (𝓜 .mem) (𝓡 .run)) (WpFn 𝓤 H (𝓣 .C) (𝓣 .Λ) code.function) (λ κs. (ptr-vals, tt)) (λ κs. (mut-tells (named 0) (κs .0) (behind .row κs), tt))
+    (walk-meets 𝓤 H (𝓖 .A) step.ended stayed W (goes-ref 𝓤 H (𝓖 .A) W 2 0 tt behind, tt)
+    (step.clauses 𝓤 H (𝓖 .A) (𝓜 .mem) (𝓡 .run)) (WpFn 𝓤 H (𝓣 .C) (𝓣 .Λ) code.function) (WpFn-mono 𝓤 H (W .laws) 𝓣 code.function)
+    (walked 𝓤 H (𝓖 .A) step.ended stayed (step.clauses 𝓤 H (𝓖 .A) (𝓜 .mem) (𝓡 .run)) (WpFn 𝓤 H (𝓣 .C) (𝓣 .Λ) code.function)
+    (λ κs. (ptr-vals, tt)) (λ κs. (mut-tells (named 0) (κs .0) (behind .row κs), tt))
     (λ κs qs bounds a g are. via 𝓤 _ (fst∗ 𝓤 _ (emp 𝓤)) (walk 𝓤 H (𝓖 .A) W (𝓜 .mem) (𝓡 .run) (𝓣 .C) (𝓣 .Λ) (fmOf 𝓤 H (W .laws) 𝓣)
-    (cited 𝓤 H (Of 𝓤 H (𝓖 .A) step-at.ended (step-at.clauses 𝓤 H (𝓖 .A) (𝓜 .mem) (𝓡 .run))) 𝓜 𝓡 code.env #reader·step-at step-at-def.routine code.calls-reader·step-at (step-at-thm.met 𝓤 H 𝓜 𝓖 𝓡))
+    (cited 𝓤 H (Of 𝓤 H (𝓖 .A) step-at.ended (step-at.clauses 𝓤 H (𝓖 .A) (𝓜 .mem)
+    (𝓡 .run))) 𝓜 𝓡 code.env #reader·step-at step-at-def.routine code.calls-reader·step-at (step-at-thm.met 𝓤 H 𝓜 𝓖 𝓡))
     (κs .0) (κs .1 .0) (qs .0) (qs .1 .0) bounds (a .0 .ptr .0) (a .0 .ptr .1) (a .0 .name) (a .0 .now)))))

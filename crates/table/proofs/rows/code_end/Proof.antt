@@ -19,11 +19,5 @@ returns-3 c = simp (← c .star-end .ensures, ne-eqb _ _ (c .before .if2 .left),
 pub code-end-spec : {M : Type 1} → statement M
 code-end-spec =
     tie.close
-    (tie.spec
-    (λ c κs. search needs)
-    returns
-    (λ c κs. search needs)
-    returns-2
-    (λ c. search needs)
-    (λ c κs. search needs)
+    (tie.spec (λ c κs. search needs) returns (λ c κs. search needs) returns-2 (λ c. search needs) (λ c κs. search needs)
     returns-3)

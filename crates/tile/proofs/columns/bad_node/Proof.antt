@@ -27,11 +27,8 @@ cast-is-away c = omega (arith, (c .shared-slice-known4) .given ((c .before .befo
 
 returns : tie.Need-returns Inv-loop μ-loop
 returns c =
-    let at-is-away = c .before in
-    let at-loop-test = at-is-away .before .before in
-    let at-loop = at-loop-test .before in
-    let start = at-loop .before .before .before .before in
-    let a = start .args in
+    let at-is-away = c .before in let at-loop-test = at-is-away .before .before in let at-loop = at-loop-test .before in
+    let start = at-loop .before .before .before .before in let a = start .args in
     let p : ℕ → Bool = λ n. edgeAway (a .start-node .now) (a .end-node .now) n (entry (a .first-edge .now) n) in
     lowest-next p (length (a .first-edge .now)) (at-loop .loop .i) (at-loop-test .loop-test .taken) (at-loop .loop .inv .1)
     (sym (at-is-away .is-away .ensures ∙ ap (λ (n : ℕ). edgeAway (a .start-node .now) (a .end-node .now) n (getD (a .first-edge .now)
@@ -39,10 +36,8 @@ returns c =
 
 loop-again : tie.Need-loop-again Inv-loop μ-loop
 loop-again c =
-    let at-is-away = c .before in
-    let at-loop = at-is-away .before .before .before in
-    let start = at-loop .before .before .before .before in
-    let a = start .args in
+    let at-is-away = c .before in let at-loop = at-is-away .before .before .before in
+    let start = at-loop .before .before .before .before in let a = start .args in
     let p : ℕ → Bool = λ n. edgeAway (a .start-node .now) (a .end-node .now) n (entry (a .first-edge .now) n) in (
       omega arith,
       none-next p (at-loop .loop .i) (at-loop .loop .inv .1)
@@ -52,27 +47,12 @@ loop-again c =
 
 returns-2 : tie.Need-returns-2 Inv-loop μ-loop
 returns-2 c =
-    let at-loop = c .before in
-    let start = at-loop .before .before .before .before in
-    let a = start .args in
+    let at-loop = c .before in let start = at-loop .before .before .before .before in let a = start .args in
     lowest-ended (λ (n : ℕ). edgeAway (a .start-node .now) (a .end-node .now) n (entry (a .first-edge .now) n)) (length (a .first-edge .now))
     (at-loop .loop .i) (c .loop-test .left) (at-loop .loop .inv .0) (at-loop .loop .inv .1)
 
 pub bad-node-spec : {M : Type 1} → statement M
 bad-node-spec =
     tie.close
-    (tie.spec
-    Inv-loop
-    μ-loop
-    loop-holds
-    (λ c. search needs)
-    (λ c. search needs)
-    (λ c. search needs)
-    cast-is-away
-    (λ c κs. search needs)
-    (λ c. search needs)
-    returns
-    (λ c. search needs)
-    (λ c. search needs)
-    loop-again
-    returns-2)
+    (tie.spec Inv-loop μ-loop loop-holds (λ c. search needs) (λ c. search needs) (λ c. search needs) cast-is-away
+    (λ c κs. search needs) (λ c. search needs) returns (λ c. search needs) (λ c. search needs) loop-again returns-2)

@@ -1,16 +1,13 @@
 -- `tile::columns::is_outside` meets its contract: each answer is the branch of the definition with the tests that led to it.
-use borrow.Author.Tests.{eq-eqb, ne-eqb, lt-ltb, le-ltb}
+use borrow.Author.Tests.{eq-eqb, ne-eqb}
 use Rattle.tile.proofs.columns.is_outside.Statement.{statement}
 use Rattle.tile.proofs.columns.is_outside.Tie as tie
 
 returns : tie.Need-returns
-returns c = search (eq-eqb, ne-eqb, lt-ltb, le-ltb)
+returns c = simp (eq-eqb _ _ (c .if1 .taken))
 
 returns-2 : tie.Need-returns-2
-returns-2 c = search (eq-eqb, ne-eqb, lt-ltb, le-ltb)
-
-returns-3 : tie.Need-returns-3
-returns-3 c = search (eq-eqb, ne-eqb, lt-ltb, le-ltb)
+returns-2 c = simp (ne-eqb _ _ (c .if1 .left))
 
 pub is-outside-spec : {M : Type 1} → statement M
-is-outside-spec = tie.close (tie.spec returns returns-2 returns-3)
+is-outside-spec = tie.close (tie.spec returns returns-2)

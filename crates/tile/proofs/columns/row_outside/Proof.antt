@@ -1,5 +1,8 @@
 -- `tile::columns::row_outside` meets its contract: the first column's number decides, and else the second's.
 use borrow.Author.Needs.{needs}
+use mathlib.Core.Path.{ap, _∙_}
+use Rattle.side.specs.Edges.{outside}
+use Rattle.tile.proofs.JoinedTests.{or-second}
 use Rattle.tile.proofs.columns.row_outside.Statement.{statement}
 use Rattle.tile.proofs.columns.row_outside.Tie as tie
 
@@ -8,39 +11,13 @@ returns c = simp (c .if1 .taken, ← c .before .is-outside .ensures, ← c .befo
 
 returns-2 : tie.Need-returns-2
 returns-2 c =
-    let at-is-outside2 = c .before in
-    let at-row2 = at-is-outside2 .before in
-    let at-if1 = at-row2 .before in
-    let at-is-outside = at-if1 .before in
-    let at-row = at-is-outside .before in
-    simp (
-      c .if2 .taken,
-      ← at-is-outside2 .is-outside2 .ensures,
-      ← at-row2 .row2 .ensures,
-      at-if1 .if1 .left,
-      ← at-is-outside .is-outside .ensures,
-      ← at-row .row .ensures,
-    )
-
-returns-3 : tie.Need-returns-3
-returns-3 c =
-    let at-is-outside2 = c .before in
-    let at-row2 = at-is-outside2 .before in
-    let at-if1 = at-row2 .before in
-    let at-is-outside = at-if1 .before in
-    let at-row = at-is-outside .before in
-    simp (c .if2 .left, ← at-is-outside2 .is-outside2 .ensures, ← at-row2 .row2 .ensures, at-if1 .if1 .left, ← at-is-outside .is-outside .ensures, ← at-row .row .ensures)
+    let at-row2 = c .before in let at-if1 = at-row2 .before in let at-is-outside = at-if1 .before in
+    let at-row = at-is-outside .before in let most = at-row .before .before .before .args .most in
+    or-second (at-is-outside .is-outside .ensures ∙ ap (outside most) (at-row .row .ensures)) (at-if1 .if1 .left)
+    (c .is-outside2 .ensures ∙ ap (outside most) (at-row2 .row2 .ensures))
 
 pub row-outside-spec : {M : Type 1} → statement M
 row-outside-spec =
     tie.close
-    (tie.spec
-    (λ c κs. search needs)
-    (λ c. search needs)
-    (λ c κs. search needs)
-    returns
-    (λ c κs. search needs)
-    (λ c. search needs)
-    (λ c κs. search needs)
-    returns-2
-    returns-3)
+    (tie.spec (λ c κs. search needs) (λ c. search needs) (λ c κs. search needs) returns (λ c κs. search needs)
+    (λ c. search needs) (λ c κs. search needs) returns-2)

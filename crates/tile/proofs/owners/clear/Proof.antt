@@ -21,8 +21,7 @@ loop-holds c = (omega arith, refl, refl)
 
 loop-again : tie.Need-loop-again Inv-loop μ-loop
 loop-again c =
-    let at-loop = c .before in
-    let start = at-loop .before in
+    let at-loop = c .before in let start = at-loop .before in
     let l : (at-loop .loop) .i < length (start .args .marks .now) = omega arith in (
       omega arith,
       front-next zeros (at-loop .loop .i) 0 (at-loop .loop .marks) (start .args .marks .now) (at-loop .loop .inv .1) refl l,
@@ -37,14 +36,5 @@ returns c =
 pub clear-spec : {M : Type 1} → statement M
 clear-spec =
     tie.close
-    (tie.spec
-    Inv-loop
-    μ-loop
-    loop-holds
-    (λ c. search needs)
-    (λ c. search needs)
-    (λ c. search needs)
-    (λ c. search needs)
-    loop-again
-    (λ c. search needs)
-    returns)
+    (tie.spec Inv-loop μ-loop loop-holds (λ c. search needs) (λ c. search needs) (λ c. search needs) (λ c. search needs)
+    loop-again (λ c. search needs) returns)

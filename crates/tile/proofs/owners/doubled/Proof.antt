@@ -8,8 +8,7 @@ use Rattle.tile.proofs.owners.doubled.Tie as tie
 
 returns : tie.Need-returns
 returns c =
-    let start = c .before .before .before .before .before .before .before .before in
-    let a = start .args in
+    let start = c .before .before .before .before .before .before .before .before in let a = start .args in
     let t = (edges (a .start-node .now) (a .end-node .now) (a .right-face .now) (a .left-face .now) (a .right-edge .now) (a .left-edge .now)) in
     pred-answer (after t) (sideCount t) (a .marks .now) (a .marks .now) (start .pre .1 .1) (c .find .result) (c .find .ensures)
 

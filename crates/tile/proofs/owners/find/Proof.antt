@@ -22,17 +22,15 @@ loop-holds c = (omega arith, none-start _)
 
 returns : tie.Need-returns Inv-loop μ-loop
 returns c =
-    let at-loop-test = c .before .before in
-    let at-loop = at-loop-test .before in
-    let start = at-loop .before in
+    let at-loop-test = c .before .before in let at-loop = at-loop-test .before in let start = at-loop .before in
     let a = start .args in
-    lowest-next (λ (s : ℕ). eqb (entry (a .marks .now) s) (a .v)) (a .n) (at-loop .loop .i) (at-loop-test .loop-test .taken) (at-loop .loop .inv .1)
+    lowest-next (λ (s : ℕ). eqb (entry (a .marks .now) s) (a .v)) (a .n) (at-loop .loop .i)
+    (at-loop-test .loop-test .taken) (at-loop .loop .inv .1)
     (eq-eqb (getD (a .marks .now) (at-loop .loop .i) 0) (a .v) (c .if1 .taken))
 
 loop-again : tie.Need-loop-again Inv-loop μ-loop
 loop-again c =
-    let at-loop = c .before .before .before in
-    let start = at-loop .before in
+    let at-loop = c .before .before .before in let start = at-loop .before in
     let a = start .args in (
       omega arith,
       none-next (λ (s : ℕ). eqb (entry (a .marks .now) s) (a .v)) (at-loop .loop .i) (at-loop .loop .inv .1) (ne-eqb (getD
@@ -42,21 +40,12 @@ loop-again c =
 returns-2 : tie.Need-returns-2 Inv-loop μ-loop
 returns-2 c =
     let a = (c .before .before .args) in
-    lowest-ended (λ (s : ℕ). eqb (entry (a .marks .now) s) (a .v)) (a .n) ((c .before .loop) .i) ((c .loop-test) .left) ((c .before .loop) .inv .0)
+    lowest-ended (λ (s : ℕ). eqb (entry (a .marks .now) s) (a .v)) (a .n) ((c .before .loop) .i) ((c .loop-test) .left)
+    ((c .before .loop) .inv .0)
     ((c .before .loop) .inv .1)
 
 pub find-spec : {M : Type 1} → statement M
 find-spec =
     tie.close
-    (tie.spec
-    Inv-loop
-    μ-loop
-    loop-holds
-    (λ c. search needs)
-    (λ c. search needs)
-    (λ c. search needs)
-    returns
-    (λ c. search needs)
-    (λ c. search needs)
-    loop-again
-    returns-2)
+    (tie.spec Inv-loop μ-loop loop-holds (λ c. search needs) (λ c. search needs) (λ c. search needs) returns
+    (λ c. search needs) (λ c. search needs) loop-again returns-2)

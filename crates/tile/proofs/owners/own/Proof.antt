@@ -35,14 +35,20 @@ columns s = columns-of (s .args .start-node .now) (s .args .end-node .now) (s .a
     (s .args .right-edge .now) (s .args .left-edge .now)
 
 known : (s : tie.Start Inv-loop μ-loop) → Painting (columns s) (s .args .fac-id .now) (s .args .start-edge .now)
-known s = painting (columns s) (s .args .fac-id .now) (s .args .start-edge .now) (s .pre .1 .0) (s .pre .1 .1 .0) (s .pre .1 .1 .1 .1)
+known s = painting (columns s) (s .args .fac-id .now) (s .args .start-edge .now) (s .pre .0 .0 .1) (s .pre .0 .0 .2) (s .pre .0 .2)
+
+-- a ring row's start is found: the place at which this function was entered
+abbrev entered : tie.After-side-with Inv-loop μ-loop → tie.Start Inv-loop μ-loop
+entered c =
+    let at-loop = c .before .before .before .before in
+    at-loop .before .before .before .before .before .before .before .before .before .before .before .before .before .before
 
 -- the start that is found is the ring row's
-found : (c : tie.After-side-with Inv-loop μ-loop) → c .side-with .result ≡ startOf (columns
-    (c .before .before .before .before .before .before .before .before .before .before .before .before .before .before .before .before .before .before)) (c .before .before .before .before .before .before .before .before .before .before .before .before .before .before .before .before .before .before .args .fac-id .now) (c .before .before .before .before .before .before .before .before .before .before .before .before .before .before .before .before .before .before .args .start-edge .now) (suc (c .before .before .before .before .loop .r))
+found : (c : tie.After-side-with Inv-loop μ-loop) → c .side-with .result
+    ≡ startOf (columns (entered c)) (entered c .args .fac-id .now) (entered c .args .start-edge .now)
+    (suc (c .before .before .before .before .loop .r))
 found c =
-    let at-row = c .before .before in
-    let at-loop = at-row .before .before in
+    let at-row = c .before .before in let at-loop = at-row .before .before in
     let back-16 = at-loop .before .before .before .before .before .before .before .before .before .before .before .before in
     let start = back-16 .before .before in
     start-is (columns (start)) (start .args .fac-id .now) (start .args .start-edge .now) (at-loop .loop .r) (c .side-with .result)
@@ -51,12 +57,12 @@ found c =
 mul-clear : tie.Need-mul-clear Inv-loop μ-loop
 mul-clear c =
     let start = c .before .before .before .before .before .before .before .before .before .before in
-    omega (arith, start .pre .0 .0)
+    omega (arith, start .pre .0 .0 .0)
 
 clear-requires : tie.Need-clear-requires Inv-loop μ-loop
 clear-requires c κs =
     let start = c .before .before .before .before .before .before .before .before .before .before in
-    omega (arith, start .pre .1 .1 .1 .0)
+    omega (arith, start .pre .1)
 
 loop-holds : tie.Need-loop-holds Inv-loop μ-loop
 loop-holds c =
@@ -72,22 +78,23 @@ loop-holds c =
 
 returns : tie.Need-returns Inv-loop μ-loop
 returns c =
-    let s = c .before .before .before .before .before .before .before .before .before .before .before .before .before .before .before .before .before .before .before .before .before in
-    let t = columns s in
-    let fi = s .args .fac-id .now in
-    let se = s .args .start-edge .now in
-    let m₀ = (c .before .before .before .before .before .before .before .before .before .before .clear) .last .0 in
+    let at-row2 = c .before in let place3 = at-row2 .before .before in
+    let at-loop-test = place3 .before .before .before in let at-loop = at-loop-test .before in
+    let at-clear = at-loop .before .before .before in
+    let s = entered (place3) in
+    let t = columns s in let fi = s .args .fac-id .now in let se = s .args .start-edge .now in
+    let m₀ = at-clear .clear .last .0 in
     let z = own-taken (after t) (sideCount t) (startOf t fi se) (length fi)
-    ((c .before .before .before .before .before .before .before .loop) .marks) m₀ (known s .into) (known s .starts)
-    ((c .before .before .before .before .before .before .before .loop) .r)
-    ((c .before .before .before .before .before .before .loop-test) .taken)
-    ((c .before .before .before .before .before .before .before .loop) .inv .2) ((c .before .before .before .before .before .before .before .loop) .inv .4)
-    (λ e. (c .if1) .taken ((c .before .row2) .ensures ∙ ap (entry ((c .before .before .before .before .before .before .before .loop) .marks)) (found
-    (c .before .before .before)) ∙ e)) in (
+    (at-loop .loop .marks) m₀ (known s .into) (known s .starts)
+    (at-loop .loop .r)
+    (at-loop-test .loop-test .taken)
+    (at-loop .loop .inv .2) (at-loop .loop .inv .4)
+    (λ e. (c .if1) .taken (at-row2 .row2 .ensures ∙ ap (entry (at-loop .loop .marks)) (found
+    (place3)) ∙ e)) in (
       z,
-      stopped-at t fi se (s .args .marks .now) ((c .before .before .before .before .before .before .before .loop) .marks) m₀
-          ((c .before .before .before .before .before .before .before .before .before .before .clear) .ensures)
-          ((c .before .before .before .before .before .before .before .loop) .r) ((c .before .before .before .before .before .before .before .loop) .inv .2) z,
+      stopped-at t fi se (s .args .marks .now) (at-loop .loop .marks) m₀
+          (at-clear .clear .ensures)
+          (at-loop .loop .r) (at-loop .loop .inv .2) z,
     )
 
 cast-paint : tie.Need-cast-paint Inv-loop μ-loop
@@ -99,65 +106,59 @@ cast-paint c =
 
 paint-requires : tie.Need-paint-requires Inv-loop μ-loop
 paint-requires c κs =
-    let s = c .before .before .before .before .before .before .before .before .before .before .before .before .before .before .before .before .before .before .before .before .before .before in (
+    let place4 = c .before .before .before .before in let at-loop = place4 .before .before .before .before in
+    let at-clear = at-loop .before .before .before in
+    let s = entered (place4) in (
       s .pre .0 .0,
       (
-        s .pre .1 .0,
-        (
-          s .pre .1 .1 .0,
-          (
-            omega (
-              arith,
-              (c .before .before .before .before .before .before .before .before .loop) .inv .3,
-              (c .before .before .before .before .before .before .before .before .before .before .before .clear) .kept,
-              s .pre .1 .1 .1 .0,
-            ),
-            rw (found
-                (c .before .before .before .before)) (start-within (columns s) (s .args .fac-id .now) (s .args .start-edge .now) (suc
-                ((c .before .before .before .before .before .before .before .before .loop) .r))),
-          ),
+        omega (
+          arith,
+          (at-loop .loop) .inv .3,
+          (at-clear .clear) .kept,
+          s .pre .1,
         ),
+        rw (found (place4)) (start-within (columns s) (s .args .fac-id .now) (s .args .start-edge .now) (suc
+            (at-loop .loop .r))),
       ),
     )
 
 loop-again : tie.Need-loop-again Inv-loop μ-loop
 loop-again c =
-    let s = c .before .before .before .before .before .before .before .before .before .before .before .before .before .before .before .before .before .before .before .before .before .before .before .before .before in
-    let t = columns s in
-    let fi = s .args .fac-id .now in
-    let se = s .args .start-edge .now in
-    let m₀ = (c .before .before .before .before .before .before .before .before .before .before .before .before .before .before .clear) .last .0 in
-    let a = found (c .before .before .before .before .before .before .before) in
-    let z : entry ((c .before .before .before .before .before .before .before .before .before .before .before .loop) .marks) (startOf t fi se (suc
-    ((c .before .before .before .before .before .before .before .before .before .before .before .loop) .r))) ≡ 0 = sym
-    ((c .before .before .before .before .before .row2) .ensures ∙ ap (entry
-    ((c .before .before .before .before .before .before .before .before .before .before .before .loop) .marks)) a) ∙
-    (c .before .before .before .before .if1) .left in (
+    let at-paint = c .before .before in let at-if1 = at-paint .before .before in let at-row2 = at-if1 .before in
+    let place7 = at-row2 .before .before in let at-loop-test = place7 .before .before .before in
+    let at-loop = at-loop-test .before in let at-clear = at-loop .before .before .before in
+    let s = entered (place7) in
+    let t = columns s in let fi = s .args .fac-id .now in let se = s .args .start-edge .now in
+    let m₀ = at-clear .clear .last .0 in
+    let a = found (place7) in
+    let z : entry (at-loop .loop .marks) (startOf t fi se (suc
+    (at-loop .loop .r))) ≡ 0 = sym
+    (at-row2 .row2 .ensures ∙ ap (entry
+    (at-loop .loop .marks)) a) ∙
+    (at-if1 .if1) .left in (
       omega arith,
       refl,
       own-turn (after t) (sideCount t) (startOf t fi se) (length fi)
-          ((c .before .before .before .before .before .before .before .before .before .before .before .loop) .marks) m₀ (known s .into)
-          (known s .starts) ((c .before .before .before .before .before .before .before .before .before .before .before .loop) .r)
-          ((c .before .before .before .before .before .before .before .before .before .before .loop-test) .taken)
-          ((c .before .before .before .before .before .before .before .before .before .before .before .loop) .inv .2)
-          ((c .before .before .before .before .before .before .before .before .before .before .before .loop) .inv .4)
-          (known s .inj) (after-zero t) z ((c .before .before .paint) .last .1 .1 .1 .1 .1 .1 .1 .1 .0) (rw a at ((c .before .before .paint) .ensures)),
-      (c .before .before .paint) .kept .1 .1 .1 .1 .1 .1 .1 .1 .0 ∙
-          (c .before .before .before .before .before .before .before .before .before .before .before .loop) .inv .3,
+          (at-loop .loop .marks) m₀ (known s .into)
+          (known s .starts) (at-loop .loop .r)
+          (at-loop-test .loop-test .taken)
+          (at-loop .loop .inv .2)
+          (at-loop .loop .inv .4)
+          (known s .inj) (after-zero t) z (at-paint .paint .last .1 .1 .1 .1 .1 .1 .1 .1 .0) (rw a at (at-paint .paint .ensures)),
+      (at-paint .paint) .kept .1 .1 .1 .1 .1 .1 .1 .1 .0 ∙
+          (at-loop .loop) .inv .3,
       own-next (after t) (sideCount t) (startOf t fi se) (length fi)
-          ((c .before .before .before .before .before .before .before .before .before .before .before .loop) .marks) m₀ (known s .into)
-          (known s .starts) ((c .before .before .before .before .before .before .before .before .before .before .before .loop) .r)
-          ((c .before .before .before .before .before .before .before .before .before .before .loop-test) .taken)
-          ((c .before .before .before .before .before .before .before .before .before .before .before .loop) .inv .2)
-          ((c .before .before .before .before .before .before .before .before .before .before .before .loop) .inv .4) z,
+          (at-loop .loop .marks) m₀ (known s .into)
+          (known s .starts) (at-loop .loop .r)
+          (at-loop-test .loop-test .taken)
+          (at-loop .loop .inv .2)
+          (at-loop .loop .inv .4) z,
     )
 
 returns-2 : tie.Need-returns-2 Inv-loop μ-loop
 returns-2 c =
     let s = c .before .before .before .before .before .before .before .before .before .before .before .before .before .before .before in
-    let t = columns s in
-    let fi = s .args .fac-id .now in
-    let se = s .args .start-edge .now in
+    let t = columns s in let fi = s .args .fac-id .now in let se = s .args .start-edge .now in
     let m₀ = (c .before .before .before .before .clear) .last .0 in
     let z = lowest-ended (alreadyMet (after t) (sideCount t) (startOf t fi se)) (length fi) ((c .before .loop) .r) ((c .loop-test) .left)
     ((c .before .loop) .inv .0) ((c .before .loop) .inv .4) in
@@ -170,25 +171,7 @@ returns-2 c =
 pub own-spec : {M : Type 1} → statement M
 own-spec =
     tie.close
-    (tie.spec
-    Inv-loop
-    μ-loop
-    mul-clear
-    clear-requires
-    loop-holds
-    (λ c. search needs)
-    (λ c κs. search needs)
-    (λ c. search needs)
-    (λ c. search needs)
-    (λ c κs. search needs)
-    (λ c κs. search needs)
-    (λ c. search needs)
-    (λ c. search needs)
-    returns
-    (λ c. search needs)
-    cast-paint
-    paint-requires
-    (λ c. search needs)
-    loop-again
-    (λ c. search needs)
-    returns-2)
+    (tie.spec Inv-loop μ-loop mul-clear clear-requires loop-holds (λ c. search needs) (λ c κs. search needs)
+    (λ c. search needs) (λ c. search needs) (λ c κs. search needs) (λ c κs. search needs) (λ c. search needs)
+    (λ c. search needs) returns (λ c. search needs) cast-paint paint-requires (λ c. search needs) loop-again
+    (λ c. search needs) returns-2)

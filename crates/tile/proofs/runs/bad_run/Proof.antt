@@ -8,10 +8,8 @@ use Rattle.tile.proofs.runs.bad_run.Tie as tie
 
 returns : tie.Need-returns
 returns c =
-    let at-lowest-misplaced = c .before in
-    let at-lowest-pointing-away = at-lowest-misplaced .before in
-    let start = at-lowest-pointing-away .before .before .before in
-    let a = start .args in
+    let at-lowest-misplaced = c .before in let at-lowest-pointing-away = at-lowest-misplaced .before in
+    let start = at-lowest-pointing-away .before .before .before in let a = start .args in
     (c .lesser-of) .ensures ∙ (λ i. lesser (at-lowest-pointing-away .lowest-pointing-away .ensures i)
     (at-lowest-misplaced .lowest-misplaced .ensures i)) ∙ runs-judged (a .ring-ptr .now) (a .fac-id .now) (start .pre)
 

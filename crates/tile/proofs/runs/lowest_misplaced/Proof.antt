@@ -22,11 +22,8 @@ loop-holds c = (omega arith, refl)
 
 loop-again : tie.Need-loop-again Inv-loop μ-loop
 loop-again c =
-    let at-misplaced = c .before in
-    let at-loop = at-misplaced .before .before in
-    let start = at-loop .before .before .before in
-    let a = start .args in
-    let here = at-loop .loop in
+    let at-misplaced = c .before in let at-loop = at-misplaced .before .before in
+    let start = at-loop .before .before .before in let a = start .args in let here = at-loop .loop in
     let face = at-misplaced .misplaced in (
       omega arith,
       least-next (beginsElsewhere (a .ring-ptr .now) (a .fac-id .now)) (entry (a .fac-id .now)) (here .i) (here .low)
@@ -35,22 +32,12 @@ loop-again c =
 
 returns : tie.Need-returns Inv-loop μ-loop
 returns c =
-    let at-loop = c .before in
-    let start = at-loop .before .before .before in
-    let a = start .args in
+    let at-loop = c .before in let start = at-loop .before .before .before in let a = start .args in
     let q : (at-loop .loop) .i ≡ length (a .fac-id .now) = omega arith in
     (at-loop .loop) .inv .1 ∙ ap (least (beginsElsewhere (a .ring-ptr .now) (a .fac-id .now)) (entry (a .fac-id .now))) q
 
 pub lowest-misplaced-spec : {M : Type 1} → statement M
 lowest-misplaced-spec =
     tie.close
-    (tie.spec
-    Inv-loop
-    μ-loop
-    loop-holds
-    (λ c κs. search needs)
-    (λ c κs. search needs)
-    (λ c. search needs)
-    (λ c. search needs)
-    loop-again
-    returns)
+    (tie.spec Inv-loop μ-loop loop-holds (λ c κs. search needs) (λ c κs. search needs) (λ c. search needs)
+    (λ c. search needs) loop-again returns)

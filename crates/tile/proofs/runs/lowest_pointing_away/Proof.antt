@@ -24,12 +24,8 @@ cast-row c = omega (arith, (c .shared-slice-known3) .given ((c .before .before .
 
 returns : tie.Need-returns Inv-loop μ-loop
 returns c =
-    let at-row = c .before in
-    let at-loop-test = at-row .before .before in
-    let at-loop = at-loop-test .before in
-    let start = at-loop .before .before .before in
-    let a = start .args in
-    let here = at-loop .loop in
+    let at-row = c .before in let at-loop-test = at-row .before .before in let at-loop = at-loop-test .before in
+    let start = at-loop .before .before .before in let a = start .args in let here = at-loop .loop in
     let row = at-row .row in
     lowest-next (pointsAway (a .ring-ptr .now) (a .fac-id .now)) (length (a .ring-ptr .now)) (here .i)
     (at-loop-test .loop-test .taken) (here .inv .1)
@@ -37,11 +33,8 @@ returns c =
 
 loop-again : tie.Need-loop-again Inv-loop μ-loop
 loop-again c =
-    let at-row = c .before in
-    let at-loop = at-row .before .before .before in
-    let start = at-loop .before .before .before in
-    let a = start .args in
-    let here = at-loop .loop in
+    let at-row = c .before in let at-loop = at-row .before .before .before in
+    let start = at-loop .before .before .before in let a = start .args in let here = at-loop .loop in
     let row = at-row .row in (
       omega arith,
       none-next (pointsAway (a .ring-ptr .now) (a .fac-id .now)) (here .i) (here .inv .1)
@@ -58,19 +51,6 @@ returns-2 c =
 pub lowest-pointing-away-spec : {M : Type 1} → statement M
 lowest-pointing-away-spec =
     tie.close
-    (tie.spec
-    Inv-loop
-    μ-loop
-    loop-holds
-    (λ c. search needs)
-    (λ c. search needs)
-    cast-row
-    (λ c κs. search needs)
-    (λ c. search needs)
-    (λ c. search needs)
-    (λ c. search needs)
-    returns
-    (λ c. search needs)
-    (λ c. search needs)
-    loop-again
-    returns-2)
+    (tie.spec Inv-loop μ-loop loop-holds (λ c. search needs) (λ c. search needs) cast-row (λ c κs. search needs)
+    (λ c. search needs) (λ c. search needs) (λ c. search needs) returns (λ c. search needs) (λ c. search needs)
+    loop-again returns-2)

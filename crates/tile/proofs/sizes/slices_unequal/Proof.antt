@@ -19,11 +19,17 @@ returns-5 : tie.Need-returns-5
 returns-5 c = search (eq-eqb, ne-eqb)
 
 returns-6 : tie.Need-returns-6
-returns-6 c = search (eq-eqb, ne-eqb)
-
-returns-7 : tie.Need-returns-7
-returns-7 c = search (eq-eqb, ne-eqb)
+returns-6 c =
+    let at-if4 = c .before in let at-if3 = at-if4 .before in let at-if2 = at-if3 .before in
+    let at-if1 = at-if2 .before in
+    simp (
+      eq-eqb _ _ (c .if5 .left),
+      eq-eqb _ _ (at-if4 .if4 .left),
+      eq-eqb _ _ (at-if3 .if3 .left),
+      eq-eqb _ _ (at-if2 .if2 .left),
+      eq-eqb _ _ (at-if1 .if1 .left),
+    )
 
 pub slices-unequal-spec : {M : Type 1} → statement M
 slices-unequal-spec =
-    tie.close (tie.spec returns returns-2 returns-3 returns-4 returns-5 returns-6 returns-7)
+    tie.close (tie.spec returns returns-2 returns-3 returns-4 returns-5 returns-6)

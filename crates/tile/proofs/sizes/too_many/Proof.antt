@@ -13,10 +13,7 @@ returns-3 : tie.Need-returns-3
 returns-3 c = search (lt-ltb, le-ltb)
 
 returns-4 : tie.Need-returns-4
-returns-4 c = search (lt-ltb, le-ltb)
-
-returns-5 : tie.Need-returns-5
-returns-5 c = search (lt-ltb, le-ltb)
+returns-4 c = simp (le-ltb _ _ (c .if3 .left), le-ltb _ _ (c .before .if2 .left), le-ltb _ _ (c .before .before .if1 .left))
 
 pub too-many-spec : {M : Type 1} → statement M
-too-many-spec = tie.close (tie.spec returns returns-2 returns-3 returns-4 returns-5)
+too-many-spec = tie.close (tie.spec returns returns-2 returns-3 returns-4)

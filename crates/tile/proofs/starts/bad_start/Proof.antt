@@ -25,14 +25,12 @@ loop-holds c = (omega arith, refl, none-start _)
 
 returns : tie.Need-returns Inv-loop μ-loop
 returns c =
-    let at-has-no-start = c .before in
-    let at-row = at-has-no-start .before .before in
-    let at-loop-test = at-row .before in
-    let at-loop = at-loop-test .before in
-    let start = at-loop .before .before .before .before .before in
-    let a = start .args in
+    let at-has-no-start = c .before in let at-row = at-has-no-start .before .before in
+    let at-loop-test = at-row .before in let at-loop = at-loop-test .before in
+    let start = at-loop .before .before .before .before .before in let a = start .args in
     let n = length (a .fac-id .now) in
-    let p : ℕ → Bool = λ r. startMissing (a .edges) (a .faces) n (a .right-face .now) (a .left-face .now) (entry (a .fac-id .now) r) (entry (a .start-edge .now) r) in
+    let p : ℕ → Bool = λ r. startMissing (a .edges) (a .faces) n (a .right-face .now) (a .left-face .now)
+    (entry (a .fac-id .now) r) (entry (a .start-edge .now) r) in
     let e = at-row .row .ensures ∙ ap (entry (a .start-edge .now)) (add-one (at-loop .loop .i)) in
     lowest-next p n (at-loop .loop .i) (at-loop-test .loop-test .taken) (at-loop .loop .inv .2)
     (sym (at-has-no-start .has-no-start .ensures ∙ ap (startMissing (a .edges) (a .faces) n (a .right-face .now) (a .left-face .now) (getD
@@ -40,13 +38,12 @@ returns c =
 
 loop-again : tie.Need-loop-again Inv-loop μ-loop
 loop-again c =
-    let at-has-no-start = c .before in
-    let at-row = at-has-no-start .before .before in
-    let at-loop = at-row .before .before in
-    let start = at-loop .before .before .before .before .before in
+    let at-has-no-start = c .before in let at-row = at-has-no-start .before .before in
+    let at-loop = at-row .before .before in let start = at-loop .before .before .before .before .before in
     let a = start .args in
     let n = length (a .fac-id .now) in
-    let p : ℕ → Bool = λ r. startMissing (a .edges) (a .faces) n (a .right-face .now) (a .left-face .now) (entry (a .fac-id .now) r) (entry (a .start-edge .now) r) in
+    let p : ℕ → Bool = λ r. startMissing (a .edges) (a .faces) n (a .right-face .now) (a .left-face .now)
+    (entry (a .fac-id .now) r) (entry (a .start-edge .now) r) in
     let e = at-row .row .ensures ∙ ap (entry (a .start-edge .now)) (add-one (at-loop .loop .i)) in (
       omega arith,
       refl,
@@ -57,9 +54,7 @@ loop-again c =
 
 returns-2 : tie.Need-returns-2 Inv-loop μ-loop
 returns-2 c =
-    let at-loop = c .before in
-    let start = at-loop .before .before .before .before .before in
-    let a = start .args in
+    let at-loop = c .before in let start = at-loop .before .before .before .before .before in let a = start .args in
     let n = length (a .fac-id .now) in
     lowest-ended (λ (r : ℕ). startMissing (a .edges) (a .faces) n (a .right-face .now) (a .left-face .now) (entry (a .fac-id .now) r) (entry
     (a .start-edge .now) r)) n (at-loop .loop .i) (c .loop-test .left) (at-loop .loop .inv .0) (at-loop .loop .inv .2)
@@ -67,18 +62,6 @@ returns-2 c =
 pub bad-start-spec : {M : Type 1} → statement M
 bad-start-spec =
     tie.close
-    (tie.spec
-    Inv-loop
-    μ-loop
-    loop-holds
-    (λ c. search needs)
-    (λ c κs. search needs)
-    (λ c. search needs)
-    (λ c. search needs)
-    (λ c κs. search needs)
-    (λ c. search needs)
-    returns
-    (λ c. search needs)
-    (λ c. search needs)
-    loop-again
-    returns-2)
+    (tie.spec Inv-loop μ-loop loop-holds (λ c. search needs) (λ c κs. search needs) (λ c. search needs)
+    (λ c. search needs) (λ c κs. search needs) (λ c. search needs) returns (λ c. search needs) (λ c. search needs)
+    loop-again returns-2)

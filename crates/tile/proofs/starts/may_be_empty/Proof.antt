@@ -13,18 +13,7 @@ returns-3 : tie.Need-returns-3
 returns-3 c = simp (ne-eqb _ _ (c .if3 .taken), eq-eqb _ _ (c .before .if2 .left), eq-eqb _ _ (c .before .before .if1 .left))
 
 returns-4 : tie.Need-returns-4
-returns-4 c =
-    let at-if3 = c .before in
-    let at-if2 = at-if3 .before in
-    let at-if1 = at-if2 .before in
-    simp (ne-eqb _ _ (c .if4 .taken), eq-eqb _ _ (at-if3 .if3 .left), eq-eqb _ _ (at-if2 .if2 .left), eq-eqb _ _ (at-if1 .if1 .left))
-
-returns-5 : tie.Need-returns-5
-returns-5 c =
-    let at-if3 = c .before in
-    let at-if2 = at-if3 .before in
-    let at-if1 = at-if2 .before in
-    simp (eq-eqb _ _ (c .if4 .left), eq-eqb _ _ (at-if3 .if3 .left), eq-eqb _ _ (at-if2 .if2 .left), eq-eqb _ _ (at-if1 .if1 .left))
+returns-4 c = simp (eq-eqb _ _ (c .if3 .left), eq-eqb _ _ (c .before .if2 .left), eq-eqb _ _ (c .before .before .if1 .left))
 
 pub may-be-empty-spec : {M : Type 1} → statement M
-may-be-empty-spec = tie.close (tie.spec returns returns-2 returns-3 returns-4 returns-5)
+may-be-empty-spec = tie.close (tie.spec returns returns-2 returns-3 returns-4)

@@ -34,19 +34,5 @@ returns-9 c = search (eq-eqb, ne-eqb)
 pub choose-side-spec : {M : Type 1} → statement M
 choose-side-spec =
     tie.close
-    (tie.spec
-    returns
-    (λ c. search needs)
-    (λ c. search needs)
-    returns-2
-    (λ c. search needs)
-    returns-3
-    returns-4
-    (λ c. search needs)
-    (λ c. search needs)
-    returns-5
-    returns-6
-    (λ c. search needs)
-    returns-7
-    returns-8
-    returns-9)
+    (tie.spec returns (λ c. search needs) (λ c. search needs) returns-2 (λ c. search needs) returns-3 returns-4
+    (λ c. search needs) (λ c. search needs) returns-5 returns-6 (λ c. search needs) returns-7 returns-8 returns-9)

@@ -1,0 +1,117 @@
+// Column names, case ignored, found by where they lie.
+use limits::MOST_COLUMNS;
+ghost use mathlib.Core.Path.{_≡_};
+ghost use Prim.Native.Nat.{min, _-_, _≤_};
+ghost use lib.ListN.{length, take, drop};
+ghost use Rattle.laws.specs.Lowest.{lowest};
+ghost use Rattle.limits.specs.Limits.{mostColumns};
+ghost use Rattle.header.specs.Names.{lower, sameText, namedBefore, namesFrom, namesOf, isAmong};
+ghost use Rattle.header.specs.Places.{part, span};
+
+// A letter of either case as the small letter.
+fn lower_of(byte: u8) -> u8
+    ensures { λ r. ⌜ r ≡ lower byte ⌝ }
+{
+    if b'A' <= byte {
+        if byte <= b'Z' { byte + 32 } else { byte }
+    } else {
+        byte
+    }
+}
+
+// Whether two texts are the same, case ignored.
+fn same_text(a: &[u8], b: &[u8]) -> bool
+    ensures { λ r. ⌜ r ≡ sameText (now (a .entry)) (now (b .entry)) ⌝ }
+{
+    if a.len() != b.len() {
+        return false;
+    }
+    let mut i = 0;
+    while i < a.len() {
+        if lower_of(a[i]) != lower_of(b[i]) {
+            return false;
+        }
+        i += 1;
+    }
+    true
+}
+
+// The bytes from start to end: none where the end stands before the start, and cut where the file ends.
+fn bytes_between(file: &[u8], start: usize, end: usize) -> &[u8]
+    ensures { λ r. ⌜ now r ≡ take (end - start) (drop start (now (file .entry))) ⌝ }
+{
+    if file.len() < end {
+        if file.len() < start {
+            return &file[0..0];
+        }
+        return &file[start..];
+    }
+    if end < start {
+        return &file[0..0];
+    }
+    &file[start..end]
+}
+
+// The lesser of a number of columns and the limit.
+pub(crate) fn within_limit(n: usize) -> usize
+    ensures { λ r. ⌜ r ≡ min n mostColumns ⌝ }
+{
+    if n <= MOST_COLUMNS { n } else { MOST_COLUMNS }
+}
+
+// The lowest of n columns whose part of the file is the name, case ignored, or 0.
+pub(crate) fn column_by_name(
+    file: &[u8],
+    starts: &[u16],
+    ends: &[u16],
+    n: usize,
+    name: &[u8],
+) -> usize
+    requires { ⌜ (n ≤ length (now starts)) × (n ≤ length (now ends)) ⌝ }
+    ensures { λ r. ⌜ r ≡ lowest (isAmong (now (file .entry)) (namesFrom (now (starts .entry)) (now (ends .entry))) (now (name .entry))) n ⌝ }
+{
+    let mut k = 0;
+    while k < n {
+        let part = bytes_between(file, starts[k] as usize, ends[k] as usize);
+        if same_text(part, name) {
+            return k + 1;
+        }
+        k += 1;
+    }
+    0
+}
+
+// Whether two parts of the file are one name.
+fn same_name(file: &[u8], a: usize, b: usize, c: usize, d: usize) -> bool
+    ensures { λ r. ⌜ r ≡ sameText (part (now (file .entry)) (span a b)) (part (now (file .entry)) (span c d)) ⌝ }
+{
+    same_text(bytes_between(file, a, b), bytes_between(file, c, d))
+}
+
+// "Two columns with one name are refused at the first such pair (lowest later column), case ignored": that column, or 0.
+pub(crate) fn doubled_name(head: &[u8], starts: &[u16], ends: &[u16], n: usize) -> usize
+    requires { ⌜ (n ≤ length (now starts)) × (n ≤ length (now ends)) ⌝ }
+    requires { ⌜ namesFrom (now starts) (now ends) ≡ namesOf (now head) n ⌝ }
+    ensures { λ r. ⌜ r ≡ lowest (namedBefore (now (head .entry))) n ⌝ }
+{
+    let mut later = 0;
+    'search: while later < n {
+        let start = starts[later] as usize;
+        let end = ends[later] as usize;
+        let mut earlier = 0;
+        while earlier < later {
+            if same_name(
+                head,
+                starts[earlier] as usize,
+                ends[earlier] as usize,
+                start,
+                end,
+            ) {
+                break 'search;
+            }
+            earlier += 1;
+        }
+        later += 1;
+    }
+    if later < n { later + 1 } else { 0 }
+}
