@@ -16,9 +16,11 @@ if [ "$(uname -m)" = x86_64 ]; then
     run_built() { name=$1; shift; "$out/$name" "$@"; }
 else
     need clang clang
+    headers=/usr/x86_64-linux-gnu/include
+    [ -d "$headers" ] || install_package libc6-dev-amd64-cross
     echo "native: $(uname -m), cross-compiled and run under the emulator: only ratios count"
     build() {
-        flags="--target=x86_64-linux-gnu -std=c11 -D_POSIX_C_SOURCE=199309L -fPIC -Wall -Wextra"
+        flags="--target=x86_64-linux-gnu -std=c11 -D_POSIX_C_SOURCE=199309L -isystem $headers -fPIC -Wall -Wextra"
         clang $flags -O3 -c native/reference.c -o "$out/reference.o"
         clang $flags "$2" -c "native/$1.c" -o "$out/$1.o"
         "$tools/bin/ld.lld" -pie -dynamic-linker "$lib/ld-linux-x86-64.so.2" -o "$out/$1" "$lib/Scrt1.o" "$lib/crti.o" "$lib/crtbeginS.o" \

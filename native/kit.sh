@@ -6,10 +6,13 @@ lib=$tools/lib
 out=target/native
 mkdir -p "$out"
 
+install_package() { # PACKAGE
+    echo "native: installing $1"
+    apt-get install -y "$1" >/dev/null
+}
+
 need() { # COMMAND PACKAGE
-    command -v "$1" >/dev/null && return
-    echo "native: installing $2"
-    apt-get install -y "$2" >/dev/null
+    command -v "$1" >/dev/null || install_package "$2"
 }
 
 prove() { # rt's WORDS: shows what it says only where it fails

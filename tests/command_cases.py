@@ -373,8 +373,9 @@ for tmp in ["/none/such", "-p", "/dev/null", ""]:
          env=lambda tmp=tmp: acted("quick", TMPDIR=tmp), command=[str(work / f"tmp-{len(tmp)}" / "tilecheck")])
 if not shutil.which("rt", path="/usr/bin:/bin"):
     case("odd: no kit", lambda: tile("t"), ["t"], NOTHING, line("the Rattle kit's command rt is not there"), 2, env={"PATH": "/usr/bin:/bin"})
-case("odd: a stack too small for the program", lambda: tile("t"), ["t"], NOTHING, line("the program could not be run: it ended with status [0-9]*"), 2,
-     before=["sh", "-c", 'ulimit -s 200 && exec "$@"', "sh"])
+if os.uname().machine == "x86_64":  # elsewhere the emulator gives the program a stack of its own
+    case("odd: a stack too small for the program", lambda: tile("t"), ["t"], NOTHING, line("the program could not be run: it ended with status [0-9]*"), 2,
+         before=["sh", "-c", 'ulimit -s 200 && exec "$@"', "sh"])
 
 
 def unwritten(name, open_it, args=("t",), vector="mj21"):

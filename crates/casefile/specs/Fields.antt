@@ -1,6 +1,6 @@
 -- A field of a file of cases: two bytes of length, the least significant first, and so many bytes, cut at the file's end.
 use mathlib.Core.List.{List}
-use Prim.Native.Nat.{ℕ, _+_, _-_, min}
+use Prim.Native.Nat.{ℕ, zero, suc, _+_, _-_, min}
 use lib.ListN.{length, take, drop}
 use Rattle.number.specs.declared.Order.the-variants.{Least}
 use Rattle.number.specs.Bytes.{number}
@@ -16,3 +16,8 @@ endOf s at = min (startOf s at + number Least s at 2) (length s)
 -- the field's bytes
 abbrev pub fieldAt : List ℕ → ℕ → List ℕ
 fieldAt s at = take (endOf s at - startOf s at) (drop (startOf s at) s)
+
+-- the place of field k, from 0
+abbrev pub placeOf : List ℕ → ℕ → ℕ
+placeOf s zero = 0
+placeOf s (suc k) = endOf s (placeOf s k)

@@ -5,7 +5,7 @@ ghost use mathlib.Core.Path.{_≡_};
 ghost use Prim.Native.Nat.{_+_, _≤_, min};
 ghost use lib.ListN.{length};
 ghost use Rattle.io.specs.Counts.{Counts};
-ghost use Rattle.casefile.specs.Fields.{startOf, endOf, fieldAt};
+ghost use Rattle.casefile.specs.Fields.{startOf, endOf, fieldAt, placeOf};
 use libc::STDOUT_FILENO;
 use number::Order;
 use refusal::Refusal;
@@ -63,6 +63,19 @@ pub fn field(file: &[u8], at: usize) -> &[u8]
     let from = start(file, at);
     let to = after(file, at);
     &file[from..to]
+}
+
+// The bytes of field k of a case, from 0.
+pub fn part(case: &[u8], k: usize) -> &[u8]
+    ensures { λ r. ⌜ now r ≡ fieldAt (now (case .entry)) (placeOf (now (case .entry)) k) ⌝ }
+{
+    let mut at = 0;
+    let mut i = 0;
+    while i < k {
+        at = after(case, at);
+        i += 1;
+    }
+    field(case, at)
 }
 
 // ---- sayings

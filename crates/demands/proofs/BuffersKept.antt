@@ -33,8 +33,8 @@ use Rattle.tile.specs.Columns.{Tile, F, sides}
 use Rattle.tile.specs.Check.{verdictOf, marksLeft, marksAfter}
 use Rattle.tile.specs.Check as check
 use Rattle.tile.specs.Walk.{walkOf, sidesWritten}
-use Rattle.tile.specs.Facts as facts
-use Rattle.tile.proofs.RefusedExactly as tile
+use Rattle.facts.specs.Facts as facts
+use Rattle.facts.proofs.RefusedExactly as tile
 use Rattle.directory.specs.declared.AtFault.{AtFault}
 use Rattle.directory.specs.declared.AtFault.the-variants.{Is, Nothing}
 use Rattle.report.specs.declared.FileName.{FileName}

@@ -82,8 +82,8 @@ use Rattle.tile.specs.Columns.{Tile, R, startSide}
 use Rattle.tile.specs.Check.{sizesWrong, startWrong, verdictOf}
 use Rattle.tile.specs.Walk.{stuckAt, onMove, movesFrom, moves, walkOf}
 use Rattle.tile.specs.Walk as walk
-use Rattle.tile.specs.Facts as tile
-use Rattle.tile.proofs.RefusedExactly as check
+use Rattle.facts.specs.Facts as tile
+use Rattle.facts.proofs.RefusedExactly as check
 use Rattle.load.specs.declared.Finding.{Finding}
 use Rattle.load.specs.declared.Loaded.{Loaded}
 use Rattle.load.specs.declared.Loaded.the-variants as loaded

@@ -79,55 +79,53 @@ use Rattle.demands.specs.ForC.{toldTable, toldRow, toldValue, toldRectan
 use Rattle.demands.proofs.NumberLists.{has, hasAll, also, none-zero}
 use Rattle.demands.proofs.NumbersNamed as numbers
 
--- an answer and its struct
+-- an answer and its struct; refusals that are one answer, or one struct, are one
 data Told {A P Q : Type 0} (refused : Q → A) (told : Q → P) (number : P → ℕ) (a : A) (s : P) : Type 0 where
   answers : number s ≡ 0 → ((q : Q) → a ≡ refused q → ⊥) → Told refused told number a s
-  refuses : (q : Q) → a ≡ refused q → s ≡ told q → Told refused told number a s
+  refuses : (q : Q) → a ≡ refused q → s ≡ told q → ((p : Q) → refused q ≡ refused p → q ≡ p) → ((p : Q) → told q ≡ told p → q ≡ p)
+      → Told refused told number a s
 
--- refusals that are one answer, or one struct, are one
-module _ {A P Q : Type 0} (refused : Q → A) (told : Q → P) (number : P → ℕ)
-    (one-answer : (p q : Q) → refused p ≡ refused q → p ≡ q) (one-struct : (p q : Q) → told p ≡ told q → p ≡ q) where
-  tells : (l : List ℕ) → has l 0 ≡ false → (a : A) (s : P) → Told refused told number a s
-      → ((q : Q) → a ≡ refused q → Among l (number (told q))) → Tells refused told number l a s
-  tells l t a s (answers z none-refused) listed = record {
-    none = ((λ e. none-refused), (λ n. z));
-    some = λ q. ((λ e. absurd (none-refused q e)), (λ w. absurd (none-zero l t (number (told q)) (sym (ap number (w .0)) ∙ z) (w .1))));
-  }
-  tells l t a s (refuses p e f) listed = record {
-    none = ((λ z. absurd (none-zero l t (number (told p)) (sym (ap number f) ∙ z) (listed p e))), (λ n. absurd (n p e)));
-    some = λ q. ((λ g. (f ∙ ap told (one-answer p q (sym e ∙ g)), listed q g)), (λ w. e ∙ ap refused (one-struct p q (sym f ∙ w .0))));
-  }
+tells : {A P Q : Type 0} {refused : Q → A} {told : Q → P} {number : P → ℕ} {a : A} {s : P} → Told refused told number a s
+    → (l : List ℕ) → has l 0 ≡ false → ((q : Q) → a ≡ refused q → Among l (number (told q))) → Tells refused told number l a s
+tells {told = told} {number = number} (answers z none-refused) l t listed = record {
+  none = ((λ e. none-refused), (λ n. z));
+  some = λ q. ((λ e. absurd (none-refused q e)), (λ w. absurd (none-zero l t (number (told q)) (sym (ap number (w .0)) ∙ z) (w .1))));
+}
+tells {refused = refused} {told = told} {number = number} (refuses p e f one-answer one-struct) l t listed = record {
+  none = ((λ z. absurd (none-zero l t (number (told p)) (sym (ap number f) ∙ z) (listed p e))), (λ n. absurd (n p e)));
+  some = λ q. ((λ g. (f ∙ ap told (one-answer q (sym e ∙ g)), listed q g)), (λ w. e ∙ ap refused (one-struct q (sym f ∙ w .0))));
+}
 
 -- ---- each kind of answer
 
 told-height : (a : Height) → Told height.Refused toldHeight (λ (s : PlainHeight). s .number) a (plainHeight a)
 told-height (height.Thousandths v) = answers refl (λ q e. clash (cc))
-told-height (height.Refused q) = refuses q refl refl
+told-height (height.Refused q) = refuses q refl refl (λ p e. cc) (λ p e. ap (λ (s : PlainHeight). refusal (s .number) (s .place)) e)
 
 told-judgement : (a : Judgement) → Told judgement.Refused toldJudgement (λ (s : PlainJudgement). s .number) a (plainJudgement a)
 told-judgement judgement.Passes = answers refl (λ q e. clash (cc))
 told-judgement judgement.TooHigh = answers refl (λ q e. clash (cc))
-told-judgement (judgement.Refused q) = refuses q refl refl
+told-judgement (judgement.Refused q) = refuses q refl refl (λ p e. cc) (λ p e. ap (λ (s : PlainJudgement). refusal (s .number) (s .place)) e)
 
 told-triplet : (a : Triplet) → Told triplet.Refused toldTriplet (λ (s : PlainTriplet). s .number) a (plainTriplet a)
 told-triplet (triplet.Is ids n) = answers refl (λ q e. clash (cc))
-told-triplet (triplet.Refused q) = refuses q refl refl
+told-triplet (triplet.Refused q) = refuses q refl refl (λ p e. cc) (λ p e. ap (λ (s : PlainTriplet). refusal (s .number) (s .place)) e)
 
 told-written : (a : Written) → Told written.Refused toldWritten (λ (s : PlainWritten). s .number) a (plainWritten a)
 told-written (written.Bytes n) = answers refl (λ q e. clash (cc))
-told-written (written.Refused q) = refuses q refl refl
+told-written (written.Refused q) = refuses q refl refl (λ p e. cc) (λ p e. ap (λ (s : PlainWritten). refusal (s .number) (s .place)) e)
 
 told-header : (a : Answer) (l : Layout) → Told answer.Refused toldHeader (λ (s : PlainHeader). s .number) a (headed a l)
 told-header answer.Accepted l = answers refl (λ q e. clash (cc))
-told-header (answer.Refused q) l = refuses q refl refl
+told-header (answer.Refused q) l = refuses q refl refl (λ p e. cc) (λ p e. ap (λ (s : PlainHeader). refusal (s .number) (s .place)) e)
 
 told-table : (a : Answer) (t : Table) → Told answer.Refused toldTable (λ (s : PlainTable). s .number) a (opened a t)
 told-table answer.Accepted t = answers refl (λ q e. clash (cc))
-told-table (answer.Refused q) t = refuses q refl refl
+told-table (answer.Refused q) t = refuses q refl refl (λ p e. cc) (λ p e. ap (λ (s : PlainTable). refusal (s .number) (s .place)) e)
 
 told-row : (a : Row) → Told row.Refused toldRow (λ (s : PlainRow). s .number) a (plainRow a)
 told-row (row.Between start end) = answers refl (λ q e. clash (cc))
-told-row (row.Refused q) = refuses q refl refl
+told-row (row.Refused q) = refuses q refl refl (λ p e. cc) (λ p e. ap (λ (s : PlainRow). refusal (s .number) (s .place)) e)
 
 told-value : (a : Value) → Told value.Refused toldValue (λ (s : PlainValue). s .number) a (plainValue a)
 told-value (value.Short v) = answers refl (λ q e. clash (cc))
@@ -143,24 +141,12 @@ told-value (value.Text p n) = answers refl (λ q e. clash (cc))
 told-value (value.Date p n) = answers refl (λ q e. clash (cc))
 told-value (value.Coordinates p n) = answers refl (λ q e. clash (cc))
 told-value value.Empty = answers refl (λ q e. clash (cc))
-told-value (value.Refused q) = refuses q refl refl
+told-value (value.Refused q) = refuses q refl refl (λ p e. cc) (λ p e. ap (λ (s : PlainValue). refusal (s .number) (s .place)) e)
 
 told-rectangle : (a : rectangle.Answer) → Told refusedWith toldRectangle (λ (s : PlainRectangle). s .number) a (plainRectangle a)
 told-rectangle (rectangle.short r) = answers refl (λ q e. clash (cc))
 told-rectangle (rectangle.double r) = answers refl (λ q e. clash (cc))
-told-rectangle (rectangle.refusedWith q) = refuses q refl refl
-
-told-load : (a : Loaded) → Told loaded.Refused toldLoad (λ (s : PlainLoaded). s .number) a (plainLoaded a)
-told-load (loaded.Tile c) = answers refl (λ q e. clash (cc))
-told-load (loaded.Refused q) = refuses q refl refl
-
-told-verdict : (a : Verdict) → Told verdict.Refused toldVerdict (λ (s : PlainVerdict). s .number) a (plainVerdict a)
-told-verdict verdict.Accepted = answers refl (λ q e. clash (cc))
-told-verdict (verdict.Refused q) = refuses q refl refl
-
-told-steps : (a : Walked) → Told walked.Refused toldSteps (λ (s : PlainSteps). s .number) a (plainSteps a)
-told-steps (walked.Steps k) = answers refl (λ q e. clash (cc))
-told-steps (walked.Refused q) = refuses q refl refl
+told-rectangle (rectangle.refusedWith q) = refuses q refl refl (λ p e. cc) (λ p e. ap (λ (s : PlainRectangle). refusal (s .number) (s .place)) e)
 
 -- a table's number names one table
 abbrev tableOfNumber : ℕ → TableName
@@ -177,6 +163,18 @@ findingTold s = record { table = tableOfNumber (s .table); refusal = refusal (s 
 
 finding-told : (q : Finding) → findingTold (toldLoad q) ≡ q
 finding-told q = ap (λ (n : TableName). record { table = n; refusal = q .refusal }) (number-names (q .table))
+
+told-load : (a : Loaded) → Told loaded.Refused toldLoad (λ (s : PlainLoaded). s .number) a (plainLoaded a)
+told-load (loaded.Tile c) = answers refl (λ q e. clash (cc))
+told-load (loaded.Refused q) = refuses q refl refl (λ p e. cc) (λ p e. sym (finding-told q) ∙ ap findingTold e ∙ finding-told p)
+
+told-verdict : (a : Verdict) → Told verdict.Refused toldVerdict (λ (s : PlainVerdict). s .number) a (plainVerdict a)
+told-verdict verdict.Accepted = answers refl (λ q e. clash (cc))
+told-verdict (verdict.Refused q) = refuses q refl refl (λ p e. cc) (λ p e. ap (λ (s : PlainVerdict). refusal (s .number) (s .place)) e)
+
+told-steps : (a : Walked) → Told walked.Refused toldSteps (λ (s : PlainSteps). s .number) a (plainSteps a)
+told-steps (walked.Steps k) = answers refl (λ q e. clash (cc))
+told-steps (walked.Refused q) = refuses q refl refl (λ p e. cc) (λ p e. ap (λ (s : PlainSteps). refusal (s .number) (s .place)) e)
 
 -- ---- questions that open their table first: the opening's numbers or their own
 
@@ -239,73 +237,26 @@ module _ (file index : List ℕ) where
 
 pub for-c : ForC
 for-c = record {
-  height = λ text.
-      tells height.Refused toldHeight (λ (s : PlainHeight). s .number) (λ p q e. cc)
-      (λ p q e. ap (λ (s : PlainHeight). refusal (s .number) (s .place)) e)
-      ofWave refl (heightOf text) (plainHeight (heightOf text))
-      (told-height (heightOf text)) (numbers.wave-numbers text);
-  passes = λ measured limit.
-      tells judgement.Refused toldJudgement (λ (s : PlainJudgement). s .number) (λ p q e. cc)
-      (λ p q e. ap (λ (s : PlainJudgement). refusal (s .number) (s .place)) e)
-      ofWave refl (judgementOf measured limit) (plainJudgement (judgementOf measured limit))
-      (told-judgement (judgementOf measured limit)) (numbers.judgement-numbers measured limit);
-  triplet = λ o bytes.
-      tells triplet.Refused toldTriplet (λ (s : PlainTriplet). s .number) (λ p q e. cc)
-      (λ p q e. ap (λ (s : PlainTriplet). refusal (s .number) (s .place)) e)
-      ofTriplet refl (tripletOf o bytes) (plainTriplet (tripletOf o bytes))
-      (told-triplet (tripletOf o bytes)) (numbers.triplet-numbers o bytes);
-  write-triplet = λ len at t.
-      tells written.Refused toldWritten (λ (s : PlainWritten). s .number) (λ p q e. cc)
-      (λ p q e. ap (λ (s : PlainWritten). refusal (s .number) (s .place)) e)
-      ofWriting refl (writtenOf len at t) (plainWritten (writtenOf len at t))
-      (told-written (writtenOf len at t)) (numbers.write-numbers len at t);
-  header = λ file.
-      tells answer.Refused toldHeader (λ (s : PlainHeader). s .number) (λ p q e. cc)
-      (λ p q e. ap (λ (s : PlainHeader). refusal (s .number) (s .place)) e)
-      ofHeader refl (headerOf file .answer) (plainHeader (headerOf file))
-      (told-header (headerOf file .answer) (headerOf file .layout)) (numbers.header-numbers file);
+  height = λ text. tells (told-height (heightOf text)) ofWave refl (numbers.wave-numbers text);
+  passes = λ measured limit. tells (told-judgement (judgementOf measured limit)) ofWave refl (numbers.judgement-numbers measured limit);
+  triplet = λ o bytes. tells (told-triplet (tripletOf o bytes)) ofTriplet refl (numbers.triplet-numbers o bytes);
+  write-triplet = λ len at t. tells (told-written (writtenOf len at t)) ofWriting refl (numbers.write-numbers len at t);
+  header = λ file. tells (told-header (headerOf file .answer) (headerOf file .layout)) ofHeader refl (numbers.header-numbers file);
   open-table = λ file index.
-      tells answer.Refused toldTable (λ (s : PlainTable). s .number) (λ p q e. cc)
-      (λ p q e. ap (λ (s : PlainTable). refusal (s .number) (s .place)) e)
-      ofOpening refl (table file index .answer) (plainTable (table file index))
-      (told-table (table file index .answer) (table file index .table)) (numbers.opening-numbers file index mostRows);
+      tells (told-table (table file index .answer) (table file index .table)) ofOpening refl (numbers.opening-numbers file index mostRows);
   judge-rows = λ file index.
       let a = table file index .answer in
       let q = rowsRefusal file index (table file index .table) in
-      tells answer.Refused toldTable (λ (s : PlainTable). s .number) (λ p q e. cc)
-      (λ p q e. ap (λ (s : PlainTable). refusal (s .number) (s .place)) e)
-      (ofRow ++ ofOpening) refl (withRows a q) (rowsUnder a q (table file index .table))
+      tells
       (subst (Told answer.Refused toldTable (λ (s : PlainTable). s .number) (withRows a q)) (sym (rows-struct file index a q))
       (told-table (withRows a q) (table file index .table)))
+      (ofRow ++ ofOpening) refl
       (rows-under file index a q refl (numbers.judge-rows-numbers file index (table file index .table)));
-  row = λ file index i.
-      tells row.Refused toldRow (λ (s : PlainRow). s .number) (λ p q e. cc)
-      (λ p q e. ap (λ (s : PlainRow). refusal (s .number) (s .place)) e)
-      (ofValue ++ ofOpening) refl (rowIn file index i) (plainRow (rowIn file index i))
-      (told-row (rowIn file index i)) (row-in-numbers file index i);
-  value = λ file index i k.
-      tells value.Refused toldValue (λ (s : PlainValue). s .number) (λ p q e. cc)
-      (λ p q e. ap (λ (s : PlainValue). refusal (s .number) (s .place)) e)
-      (ofValue ++ ofOpening) refl (valueIn file index i k) (plainValue (valueIn file index i k))
-      (told-value (valueIn file index i k)) (value-in-numbers file index i k);
+  row = λ file index i. tells (told-row (rowIn file index i)) (ofValue ++ ofOpening) refl (row-in-numbers file index i);
+  value = λ file index i k. tells (told-value (valueIn file index i k)) (ofValue ++ ofOpening) refl (value-in-numbers file index i k);
   rectangle = λ file index i k.
-      tells refusedWith toldRectangle (λ (s : PlainRectangle). s .number) (λ p q e. cc)
-      (λ p q e. ap (λ (s : PlainRectangle). refusal (s .number) (s .place)) e)
-      (ofRectangle ++ ofOpening) refl (rectangleIn file index i k) (plainRectangle (rectangleIn file index i k))
-      (told-rectangle (rectangleIn file index i k)) (rectangle-in-numbers file index i k);
-  load = λ f most lengths.
-      tells loaded.Refused toldLoad (λ (s : PlainLoaded). s .number) (λ p q e. cc)
-      (λ p q e. sym (finding-told p) ∙ ap findingTold e ∙ finding-told q)
-      ofLoad refl (loadOf f most lengths) (plainLoaded (loadOf f most lengths))
-      (told-load (loadOf f most lengths)) (numbers.load-numbers f most lengths);
-  check = λ t space.
-      tells verdict.Refused toldVerdict (λ (s : PlainVerdict). s .number) (λ p q e. cc)
-      (λ p q e. ap (λ (s : PlainVerdict). refusal (s .number) (s .place)) e)
-      ofCheck refl (verdictOf t space) (plainVerdict (verdictOf t space))
-      (told-verdict (verdictOf t space)) (numbers.check-numbers t space);
-  walk = λ t r space.
-      tells walked.Refused toldSteps (λ (s : PlainSteps). s .number) (λ p q e. cc)
-      (λ p q e. ap (λ (s : PlainSteps). refusal (s .number) (s .place)) e)
-      ofWalk refl (walkOf t r space) (plainSteps (walkOf t r space))
-      (told-steps (walkOf t r space)) (numbers.walk-numbers t r space);
+      tells (told-rectangle (rectangleIn file index i k)) (ofRectangle ++ ofOpening) refl (rectangle-in-numbers file index i k);
+  load = λ f most lengths. tells (told-load (loadOf f most lengths)) ofLoad refl (numbers.load-numbers f most lengths);
+  check = λ t space. tells (told-verdict (verdictOf t space)) ofCheck refl (numbers.check-numbers t space);
+  walk = λ t r space. tells (told-steps (walkOf t r space)) ofWalk refl (numbers.walk-numbers t r space);
 }

@@ -55,15 +55,15 @@ use Rattle.load.proofs.LoadedExactly as load
 use Rattle.load.proofs.WhatIsWritten.{element-is-value, rest-as-it-was}
 use Rattle.side.specs.Edges.{Edges}
 use Rattle.side.proofs.SuccessorExactly as successor
-use Rattle.tile.proofs.AcceptedExactly as check
-use Rattle.tile.proofs.RefusedExactly as tile
-use Rattle.tile.proofs.DemandThree.{demand3}
+use Rattle.facts.proofs.AcceptedExactly as check
+use Rattle.facts.proofs.RefusedExactly as tile
+use Rattle.facts.proofs.DemandThree.{demand3}
 use Rattle.load.specs.declared.TableName.the-variants.{Edg}
 use Rattle.tile.specs.Columns.{Tile, R, sides}
 use Rattle.tile.specs.Walk.{walkOf, stepsOf, allSteps, sideAfter, ringSteps, ringSides}
-use Rattle.tile.specs.Demand.{Demand3 as Walked}
-use Rattle.tile.proofs.StartExactly.{start-side-exactly}
-use Rattle.tile.proofs.WalkExactly as walk
+use Rattle.facts.specs.Demand.{Demand3 as Walked}
+use Rattle.facts.proofs.StartExactly.{start-side-exactly}
+use Rattle.facts.proofs.WalkExactly as walk
 use Rattle.directory.specs.declared.AtFault.{AtFault}
 use Rattle.directory.specs.declared.Sizes.{Sizes}
 use Rattle.limits.specs.Limits.{programRows, programSides}

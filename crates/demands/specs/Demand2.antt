@@ -72,8 +72,8 @@ use Rattle.tile.specs.declared.Walked.the-variants as walked
 use Rattle.tile.specs.Columns.{Tile, R, startSide}
 use Rattle.tile.specs.Check.{verdictOf}
 use Rattle.tile.specs.Walk.{walkOf, sidesWritten}
-use Rattle.tile.specs.WalkWords as walk
-use Rattle.tile.specs.Facts as tile
+use Rattle.facts.specs.WalkWords as walk
+use Rattle.facts.specs.Facts as tile
 use Rattle.directory.specs.declared.Sizes.{Sizes}
 use Rattle.report.specs.Lines.{refuseLine}
 use Rattle.directory.specs.declared.Named.{Named}

@@ -15,7 +15,7 @@ use Rattle.tile.specs.Columns.{Tile, E, F, R, N}
 use Rattle.tile.specs.declared.Verdict.the-variants as verdict
 use Rattle.tile.specs.Check.{verdictOf}
 use Rattle.tile.specs.Walk.{allSteps, ringSides}
-use Rattle.tile.specs.Demand.{Demand3 as Walked}
+use Rattle.facts.specs.Demand.{Demand3 as Walked}
 use Rattle.directory.specs.declared.Sizes.{Sizes}
 use Rattle.report.specs.Lines.{acceptLine, stepsLine}
 use Rattle.directory.specs.declared.Outcome.the-variants as outcome

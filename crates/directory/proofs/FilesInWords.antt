@@ -15,7 +15,7 @@ use Rattle.side.specs.Edges.{outside}
 use Rattle.side.specs.Successor.{Fault, no-touch, other-face, both-sides}
 use Rattle.side.proofs.SuccessorExactly.{not-outside}
 use Rattle.tile.specs.Columns.{Tile, F, R}
-use Rattle.tile.specs.Facts as tile
+use Rattle.facts.specs.Facts as tile
 use Rattle.load.specs.declared.Finding.{Finding}
 use Rattle.load.specs.declared.TableName.{TableName}
 use Rattle.load.specs.declared.TableName.the-variants as table

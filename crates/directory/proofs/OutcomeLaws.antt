@@ -12,19 +12,18 @@ use Rattle.laws.specs.Buffer.{listed}
 use Rattle.laws.proofs.LowestLaws.{bool-cases}
 use Rattle.laws.proofs.BufferLaws.{length-listed}
 use Rattle.laws.proofs.TestLaws.{clash}
-use Rattle.refusal.specs.declared.Refusal.{Refusal}
 use Rattle.refusal.specs.Order.{refusal}
 use Rattle.side.specs.Edges.{edges}
 use Rattle.tile.specs.Columns.{Tile, tile}
-use Rattle.tile.specs.Check.{marksAfter}
+use Rattle.tile.specs.declared.Verdict.{Verdict}
+use Rattle.tile.specs.Check.{verdictOf, marksAfter}
 use Rattle.load.specs.declared.TableName.{TableName}
 use Rattle.load.specs.declared.TableName.the-variants.{Edg, Fac, Rng, Cnd}
 use Rattle.load.specs.declared.Counts.{Counts}
-use Rattle.load.specs.declared.Finding.{Finding}
 use Rattle.load.specs.declared.Loaded.{Loaded}
 use Rattle.load.specs.declared.Loaded.the-variants as loaded
 use Rattle.load.specs.Sources.{Files, files, tableIn, tablesOf}
-use Rattle.load.specs.Columns.{Columns, lengths}
+use Rattle.load.specs.Columns.{Columns, columns, lengths}
 use Rattle.load.specs.Load.{cellsOf, counts, loadFinding, loadOf, columnLeft, columnsLeft}
 use Rattle.load.specs.Words.{countOf}
 use Rattle.directory.specs.declared.AtFault.{AtFault}
@@ -34,13 +33,12 @@ use Rattle.directory.specs.declared.Sizes.{Sizes}
 use Rattle.limits.specs.Limits.{programRows}
 use Rattle.directory.specs.Files.{tooLarge}
 use Rattle.directory.specs.Concerned.{fileOfFinding}
-use Rattle.directory.specs.declared.Named.{Named}
 use Rattle.directory.specs.declared.Outcome.{Outcome}
 use Rattle.directory.specs.declared.Outcome.the-variants.{Accepted, Refused}
 use Rattle.directory.specs.Columns.{held, short, shortOf}
 use Rattle.directory.specs.Files.{Directory, cnxRead, filesRead, sizesTaken}
 use Rattle.directory.specs.Outcome.{named, column, tileSaid, loadedAs, unlessAtFault, loadedOf, columnsAfter, checkedAs}
-use Rattle.directory.specs.Outcome.{checkedOf, marksChecked, outcomeOf}
+use Rattle.directory.specs.Outcome.{checkedFrom, checkedOf, marksChecked, outcomeOf}
 
 -- the index of cnd as it is lent
 pub files-read : (d : Directory) (x : List ℕ) (k : Bool) → k ≡ cnxRead d → x ≡ cond k (d .cnx) []
@@ -51,38 +49,32 @@ files-read d x k p q = ap (λ (i : List ℕ). files (d .edg) (d .edx) (d .fac) [
 
 -- ---- loaded
 
+-- what loading leaves in the columns is what is left with the file named
+left-as : (k : Bool) (r : Loaded) (f : Files) (l : Columns) → columnsLeft r f programRows l ≡ columnsAfter (loadedAs k r) f l
+left-as k (loaded.Tile c) f l = refl
+left-as k (loaded.Refused q) f l = refl
+
 module _ (z : Sizes) (d : Directory) (y : Sizes) (py : y ≡ sizesTaken z d) (k : Bool) (pk : k ≡ cnxRead d) (t : AtFault)
     (pt : t ≡ tooLarge y k) where
   sized : tooLarge (sizesTaken z d) (cnxRead d) ≡ t
   sized = sym (pt ∙ ap (λ (x : Sizes). tooLarge x k) py ∙ ap (tooLarge (sizesTaken z d)) pk)
 
   -- a file too large: the columns are as they were
-  pub size-refused : (n : FileName) → t ≡ Is n → (l : Columns) (q : Named) (x : Refusal) → q ≡ named n x → x ≡ refusal 15 0
-      → (Refused q ≡ loadedOf z d (lengths l)) × (l ≡ columnsAfter (Refused q) (filesRead d) l)
+  pub size-refused : (n : FileName) → t ≡ Is n → (l : Columns) (o : Outcome) → o ≡ Refused (named n (refusal 15 0))
+      → (o ≡ loadedOf z d (lengths l)) × (l ≡ columnsAfter o (filesRead d) l)
   unfolding loadedOf
-  size-refused n e l q x a b = (rw (sized ∙ e) (ap Refused (a ∙ ap (named n) b)), refl)
+  size-refused n e l o a = (rw (sized ∙ e) a, ap (λ (x : Outcome). columnsAfter x (filesRead d) l) (sym a))
 
   -- no file too large: what loading says, and leaves in the columns
-  module _ (e : t ≡ Nothing) (f : Files) (pf : f ≡ filesRead d) (l m : Columns) (r : Loaded) (pr : r ≡ loadOf f programRows (lengths l))
-      (pm : m ≡ columnsLeft r f programRows l) where
-    said : loadOf (filesRead d) programRows (lengths l) ≡ r
-    said = ap (λ (x : Files). loadOf x programRows (lengths l)) (sym pf) ∙ sym pr
-
-    left-by : (g : Loaded) → r ≡ g → m ≡ columnsLeft g (filesRead d) programRows l
-    left-by g h = pm ∙ ap (λ (x : Files). columnsLeft r x programRows l) pf ∙ ap (λ (x : Loaded). columnsLeft x (filesRead d) programRows l) h
-
-    pub load-accepted : (c : Counts) → r ≡ loaded.Tile c
-        → (Accepted c ≡ loadedOf z d (lengths l)) × (m ≡ columnsAfter (Accepted c) (filesRead d) l)
-    unfolding loadedOf
-    load-accepted c g = (rw (sized ∙ e, said ∙ g) refl, left-by (loaded.Tile c) g)
-
-    pub load-refused : (q : Finding) → r ≡ loaded.Refused q → (n : FileName) (w : Named) → n ≡ fileOfFinding k q → w ≡ named n (q .refusal)
-        → (Refused w ≡ loadedOf z d (lengths l)) × (m ≡ columnsAfter (Refused w) (filesRead d) l)
-    unfolding loadedOf
-    load-refused q g n w a b = (
-      rw (sized ∙ e, said ∙ g) (ap Refused (b ∙ ap (λ (x : FileName). named x (q .refusal)) (a ∙ ap (λ (x : Bool). fileOfFinding x q) pk))),
-      left-by (loaded.Refused q) g,
-    )
+  pub load-answered : t ≡ Nothing → (f : Files) → f ≡ filesRead d → (l m : Columns) (r : Loaded) → r ≡ loadOf f programRows (lengths l)
+      → m ≡ columnsLeft r f programRows l → (o : Outcome) → o ≡ loadedAs k r
+      → (o ≡ loadedOf z d (lengths l)) × (m ≡ columnsAfter o (filesRead d) l)
+  unfolding loadedOf
+  load-answered e f pf l m r pr pm o a = (
+    rw (sized ∙ e, ap (λ (x : Files). loadOf x programRows (lengths l)) (sym pf) ∙ sym pr) (a ∙ ap (λ (x : Bool). loadedAs x r) pk),
+    pm ∙ ap (λ (x : Files). columnsLeft r x programRows l) pf ∙ left-as k r (filesRead d) l
+        ∙ ap (λ (x : Outcome). columnsAfter x (filesRead d) l) (sym a),
+  )
 
 -- ---- the columns of a loaded directory hold the tile that its files say
 
@@ -177,17 +169,28 @@ module _ (z : Sizes) (d : Directory) (lengths : List ℕ) (c : Counts) where
     unfolding checkedOf outcomeOf
     loaded-checked l space = rw (counts-held l, accepted) (ap (λ (t : Tile). checkedAs c t space) (held-said l))
 
--- ---- checked
+-- ---- checked, and walked
+
+-- the fronts of ten columns are the tile that stands there
+pub fronts-held : (n : Counts) {a b c d e f g h i j : List ℕ} (a′ b′ c′ d′ e′ f′ g′ h′ i′ j′ : List ℕ)
+    → a ≡ take (n .edges) a′ → b ≡ take (n .edges) b′
+    → c ≡ take (n .edges) c′ → d ≡ take (n .edges) d′ → e ≡ take (n .edges) e′ → f ≡ take (n .edges) f′ → g ≡ take (n .faces) g′
+    → h ≡ take (n .rings) h′ → i ≡ take (n .rings) i′ → j ≡ take (n .nodes) j′
+    → tile (edges a b c d e f) g h i j ≡ held n (columns a′ b′ c′ d′ e′ f′ g′ h′ i′ j′)
+fronts-held n a′ b′ c′ d′ e′ f′ g′ h′ i′ j′ pa pb pc pd pe pf pg ph pi pj = rw (pa, pb, pc, pd, pe, pf, pg, ph, pi, pj) refl
 
 module _ (c : Counts) (l : Columns) (x : AtFault) (px : x ≡ shortOf c l) where
   -- counts that the columns cannot have
-  pub counts-refused : (n : FileName) → x ≡ Is n → (q : Named) (r : Refusal) → q ≡ named n r → r ≡ refusal 15 0 → (d : List ℕ)
-      → (Refused q ≡ checkedOf c l (length d)) × (d ≡ marksChecked c l d)
+  pub counts-refused : (n : FileName) → x ≡ Is n → (o : Outcome) → o ≡ Refused (named n (refusal 15 0)) → (d : List ℕ)
+      → (o ≡ checkedOf c l (length d)) × (d ≡ marksChecked c l d)
   unfolding checkedOf marksChecked
-  counts-refused n e q r a b d = (rw (sym px ∙ e) (ap Refused (a ∙ ap (named n) b)), rw (sym px ∙ e) refl)
+  counts-refused n e o a d = (rw (sym px ∙ e) a, rw (sym px ∙ e) refl)
 
-  -- counts that they can have: the check's own answer
-  pub counts-fit : x ≡ Nothing → (d d′ : List ℕ) (o : Outcome) → o ≡ checkedAs c (held c l) (length d) → d′ ≡ marksAfter (held c l) d
-      → (o ≡ checkedOf c l (length d)) × (d′ ≡ marksChecked c l d)
-  unfolding checkedOf marksChecked
-  counts-fit e d d′ o a b = (rw (sym px ∙ e) a, rw (sym px ∙ e) b)
+  -- counts that they can have: the check's own answer, of a tile that is the one held
+  pub counts-fit : x ≡ Nothing → (t : Tile) → t ≡ held c l → (d d′ : List ℕ) (v : Verdict) → v ≡ verdictOf t (length d) → d′ ≡ marksAfter t d
+      → (o : Outcome) → o ≡ checkedFrom c t v → (o ≡ checkedOf c l (length d)) × (d′ ≡ marksChecked c l d)
+  unfolding checkedOf checkedAs marksChecked
+  counts-fit e t pt d d′ v pv pd o po = (
+    rw (sym px ∙ e) (po ∙ ap (checkedFrom c t) pv ∙ ap (λ (y : Tile). checkedFrom c y (verdictOf y (length d))) pt),
+    rw (sym px ∙ e) (pd ∙ ap (λ (y : Tile). marksAfter y d) pt),
+  )

@@ -12,8 +12,8 @@ use Rattle.tile.specs.Columns.{Tile, E, F, R, N}
 use Rattle.tile.specs.declared.Verdict.{Verdict}
 use Rattle.tile.specs.declared.Verdict.the-variants as verdict
 use Rattle.tile.specs.Check.{verdictOf}
-use Rattle.tile.proofs.AcceptedExactly as check
-use Rattle.tile.proofs.RefusedExactly.{refused, words-refused}
+use Rattle.facts.proofs.AcceptedExactly as check
+use Rattle.facts.proofs.RefusedExactly.{refused, words-refused}
 use Rattle.opening.specs.declared.Table.{Table}
 use Rattle.load.specs.declared.TableName.{TableName}
 use Rattle.load.specs.declared.TableName.the-variants.{Edg, Fac, Rng, Cnd}

@@ -69,9 +69,13 @@ columnsAfter (Refused w) f l = l
 
 -- ---- checked: the check's own answer, with the file that a refusal speaks of
 
+-- in a tile with these ring faces and so many faces
+abbrev pub checkedBy : Counts → List ℕ → ℕ → Verdict → Outcome
+checkedBy c facId faces verdict.Accepted = Accepted c
+checkedBy c facId faces (verdict.Refused q) = Refused (named (fileOfVerdict facId faces q) q)
+
 abbrev pub checkedFrom : Counts → Tile → Verdict → Outcome
-checkedFrom c t verdict.Accepted = Accepted c
-checkedFrom c t (verdict.Refused q) = Refused (named (fileOfVerdict (t .facId) (F t) q) q)
+checkedFrom c t v = checkedBy c (t .facId) (F t) v
 
 -- the answer to a check of a tile with these counts; `space` is that of the owner marks
 unfoldable pub checkedAs : Counts → Tile → ℕ → Outcome

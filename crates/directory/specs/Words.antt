@@ -6,7 +6,7 @@ use mathlib.Core.List.{List}
 use Prim.Native.Nat.{ℕ, _≤_, _<_}
 use lib.ListN.{length}
 use Rattle.refusal.specs.Order.{refusal}
-use Rattle.tile.specs.Facts as tile
+use Rattle.facts.specs.Facts as tile
 use Rattle.load.specs.declared.Counts.{Counts}
 use Rattle.load.specs.declared.Finding.{Finding}
 use Rattle.load.specs.declared.TableName.the-variants as table

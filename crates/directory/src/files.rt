@@ -3,7 +3,6 @@ use crate::AtFault;
 use crate::Sizes;
 use header::Layout;
 use limits::MOST_BYTES;
-use limits::MOST_COLUMNS;
 use load::Finding;
 use load::TableName;
 use refusal::CYCLE_OWNED;
@@ -14,9 +13,10 @@ use refusal::WRONG_RING_ROWS;
 use refusal::WRONG_START;
 use report::FileName;
 ghost use mathlib.Core.Path.{_≡_};
-ghost use Prim.Native.Nat.{min};
-ghost use Rattle.limits.specs.Limits.{mostColumns};
+ghost use mathlib.Core.Bool.{cond};
+ghost use lib.Dec.{eqb};
 ghost use Rattle.load.specs.declared.TableName.the-variants.{Cnd};
+ghost use Rattle.report.specs.declared.FileName.the-variants.{Edg, Fac, Rng};
 ghost use Rattle.directory.specs.Files.{tooLarge, hasTriplet, showsTriplet};
 ghost use Rattle.directory.specs.Concerned.{ofTable, ofIndex, fileOfFinding, ringRow, fileOfVerdict};
 
@@ -47,21 +47,11 @@ pub(crate) fn too_large(sizes: Sizes, cnx_read: bool) -> AtFault
     AtFault::Nothing
 }
 
-// The columns that a layout has, whoever made it.
-fn column_count(columns: usize) -> usize
-    ensures { λ r. ⌜ r ≡ min columns mostColumns ⌝ }
-{
-    if MOST_COLUMNS < columns {
-        return MOST_COLUMNS;
-    }
-    columns
-}
-
 // Whether one of the columns is a triplet.
 fn has_triplet(layout: Layout) -> bool
     ensures { λ r. ⌜ r ≡ hasTriplet layout ⌝ }
 {
-    let n = column_count(layout.columns);
+    let n = limits::columns_within(layout.columns);
     let mut k = 0;
     while k < n {
         let column = layout.cols[k];
@@ -132,17 +122,33 @@ pub(crate) fn file_of_finding(cnx_read: bool, found: Finding) -> FileName
 fn is_ring_row(fac_id: &[u32], faces: usize, place: usize) -> bool
     ensures { λ r. ⌜ r ≡ ringRow (now («fac_id» .entry)) faces place ⌝ }
 {
-    if place == 0 {
+    if side::is_outside(fac_id.len(), place) {
         return false;
     }
-    if fac_id.len() < place {
-        return false;
+    side::is_outside(faces, side::row(fac_id, place) as usize)
+}
+
+// "rng or fac for 28 by its place"
+fn by_place(fac_id: &[u32], faces: usize, place: usize) -> FileName
+    ensures { λ r. ⌜ r ≡ cond (ringRow (now («fac_id» .entry)) faces place) Rng Fac ⌝ }
+{
+    if is_ring_row(fac_id, faces, place) {
+        return FileName::Rng;
     }
-    let face = side::row(fac_id, place) as usize;
-    if face == 0 {
-        return true;
+    FileName::Fac
+}
+
+// "rng for 29 and 30", and edg for what is left.
+fn by_number(number: u32) -> FileName
+    ensures { λ r. ⌜ r ≡ cond (eqb number 29) Rng (cond (eqb number 30) Rng Edg) ⌝ }
+{
+    if number == WRONG_START {
+        return FileName::Rng;
     }
-    faces < face
+    if number == CYCLE_OWNED {
+        return FileName::Rng;
+    }
+    FileName::Edg
 }
 
 // The file that a refusal of the check speaks of, in a tile with these ring faces and so many faces.
@@ -153,16 +159,7 @@ pub(crate) fn file_of_verdict(fac_id: &[u32], faces: usize, refused: Refusal) ->
         return FileName::Cnd;
     }
     if refused.number == WRONG_RING_ROWS {
-        if is_ring_row(fac_id, faces, refused.place) {
-            return FileName::Rng;
-        }
-        return FileName::Fac;
+        return by_place(fac_id, faces, refused.place);
     }
-    if refused.number == WRONG_START {
-        return FileName::Rng;
-    }
-    if refused.number == CYCLE_OWNED {
-        return FileName::Rng;
-    }
-    FileName::Edg
+    by_number(refused.number)
 }

@@ -14,14 +14,13 @@ ghost use mathlib.Core.Bool.{cond, _||_};
 ghost use mathlib.Core.List.{[]};
 ghost use Prim.Native.Nat.{max};
 ghost use lib.ListN.{length, take};
-ghost use Rattle.side.specs.Edges.{edges};
-ghost use Rattle.tile.specs.Columns.{tile};
-ghost use Rattle.tile.specs.Check.{marksAfter};
+ghost use Rattle.refusal.specs.Order.{refusal};
 ghost use Rattle.tile.specs.Walk.{walkOf, sidesWritten};
 ghost use Rattle.load.specs.Columns.{columns, lengths};
 ghost use Rattle.directory.specs.Columns.{held, short, shortOf};
 ghost use Rattle.directory.specs.Files.{directory, filesRead, sizesTaken};
-ghost use Rattle.directory.specs.Outcome.{named, loadedOf, columnsAfter, checkedAs, checkedOf, marksChecked};
+ghost use Rattle.directory.specs.Outcome.{named, loadedAs, loadedOf, columnsAfter, checkedBy, checkedOf, marksChecked};
+ghost use Rattle.directory.specs.declared.Outcome.the-variants.{Refused};
 
 // How many bytes each file is said to have; any number above 65,536 stands for a larger file.
 pub struct Sizes {
@@ -57,6 +56,13 @@ fn name(file: FileName, refused: Refusal) -> Named
         file: file,
         refusal: refused,
     }
+}
+
+// 15 with the file that is over a limit.
+fn over_limit(file: FileName) -> Outcome
+    ensures { λ r. ⌜ r ≡ Refused (named file (refusal 15 0)) ⌝ }
+{
+    Outcome::Refused(name(file, refusal::refuse(OVER_LIMIT, 0)))
 }
 
 // ---- loaded
@@ -105,6 +111,19 @@ fn take_sizes(
     }
 }
 
+// What loading found, with the file that its refusal speaks of.
+fn loaded_as(cnx_read: bool, found: Loaded) -> Outcome
+    ensures { λ r. ⌜ r ≡ loadedAs «cnx_read» found ⌝ }
+{
+    match found {
+        Loaded::Tile(c) => Outcome::Accepted(c),
+        Loaded::Refused(q) => Outcome::Refused(name(
+            files::file_of_finding(cnx_read, q),
+            q.refusal,
+        )),
+    }
+}
+
 // The files of a directory, each with the size that it is said to have, loaded to the front of ten columns; a file too large may be lent in
 // part. cnx counts only where cnd shows K. A refusal changes nothing.
 pub fn load_files(
@@ -148,12 +167,12 @@ pub fn load_files(
     let cnx_read = files::shows_triplet(cnd);
     match files::too_large(take_sizes(sizes, edg, edx, fac, rng, cnd, cnx), cnx_read) {
         AtFault::Is(file) => {
-            return Outcome::Refused(name(file, refusal::refuse(OVER_LIMIT, 0)));
+            return over_limit(file);
         }
         AtFault::Nothing => {}
     }
     let none = &cnd[0..0];
-    match load::load(
+    let found = load::load(
         edg,
         edx,
         fac,
@@ -173,13 +192,8 @@ pub fn load_files(
         fac_id,
         start_edge,
         first_edge,
-    ) {
-        Loaded::Tile(c) => Outcome::Accepted(c),
-        Loaded::Refused(found) => Outcome::Refused(name(
-            files::file_of_finding(cnx_read, found),
-            found.refusal,
-        )),
-    }
+    );
+    loaded_as(cnx_read, found)
 }
 
 // ---- checked, and walked
@@ -194,101 +208,14 @@ fn front_of<'a>(column: &'a [u32], n: usize) -> &'a [u32]
     &column[0..n]
 }
 
-// The check of a tile, with the file that its refusal speaks of.
-fn check_tile(
-    counts: Counts,
-    start_node: &[u32],
-    end_node: &[u32],
-    right_face: &[u32],
-    left_face: &[u32],
-    right_edge: &[u32],
-    left_edge: &[u32],
-    ring_ptr: &[u32],
-    fac_id: &[u32],
-    start_edge: &[u32],
-    first_edge: &[u32],
-    marks: &mut [u32],
-) -> Outcome
-    ensures { λ r. ⌜ r ≡ checkedAs counts
-        (tile (edges (now («start_node» .entry)) (now («end_node» .entry)) (now («right_face» .entry))
-        (now («left_face» .entry)) (now («right_edge» .entry)) (now («left_edge» .entry)))
-        (now («ring_ptr» .entry)) (now («fac_id» .entry))
-        (now («start_edge» .entry)) (now («first_edge» .entry)))
-        (length (now (marks .entry))) ⌝ }
-    ensures { λ _. ⌜ now (marks .exit) ≡ marksAfter
-        (tile (edges (now («start_node» .entry)) (now («end_node» .entry)) (now («right_face» .entry))
-        (now («left_face» .entry)) (now («right_edge» .entry)) (now («left_edge» .entry)))
-        (now («ring_ptr» .entry)) (now («fac_id» .entry))
-        (now («start_edge» .entry)) (now («first_edge» .entry)))
-        (now (marks .entry)) ⌝ }
+// The check's verdict, with the file that its refusal speaks of, in a tile with these ring faces and so many faces.
+fn checked_by(counts: Counts, fac_id: &[u32], faces: usize, verdict: Verdict) -> Outcome
+    ensures { λ r. ⌜ r ≡ checkedBy counts (now («fac_id» .entry)) faces verdict ⌝ }
 {
-    match tile::check(
-        start_node,
-        end_node,
-        right_face,
-        left_face,
-        right_edge,
-        left_edge,
-        ring_ptr,
-        fac_id,
-        start_edge,
-        first_edge,
-        marks,
-    ) {
+    match verdict {
         Verdict::Accepted => Outcome::Accepted(counts),
-        Verdict::Refused(q) => Outcome::Refused(name(
-            files::file_of_verdict(fac_id, ring_ptr.len(), q),
-            q,
-        )),
+        Verdict::Refused(q) => Outcome::Refused(name(files::file_of_verdict(fac_id, faces, q), q)),
     }
-}
-
-// The check of the tile that stands at the front of ten columns.
-fn check_front(
-    counts: Counts,
-    start_node: &[u32],
-    end_node: &[u32],
-    right_face: &[u32],
-    left_face: &[u32],
-    right_edge: &[u32],
-    left_edge: &[u32],
-    ring_ptr: &[u32],
-    fac_id: &[u32],
-    start_edge: &[u32],
-    first_edge: &[u32],
-    marks: &mut [u32],
-) -> Outcome
-    ensures { λ r. ⌜ r ≡ checkedAs counts
-        (held counts (columns (now («start_node» .entry)) (now («end_node» .entry)) (now («right_face» .entry))
-        (now («left_face» .entry)) (now («right_edge» .entry)) (now («left_edge» .entry))
-        (now («ring_ptr» .entry)) (now («fac_id» .entry))
-        (now («start_edge» .entry)) (now («first_edge» .entry))))
-        (length (now (marks .entry))) ⌝ }
-    ensures { λ _. ⌜ now (marks .exit) ≡ marksAfter
-        (held counts (columns (now («start_node» .entry)) (now («end_node» .entry)) (now («right_face» .entry))
-        (now («left_face» .entry)) (now («right_edge» .entry)) (now («left_edge» .entry))
-        (now («ring_ptr» .entry)) (now («fac_id» .entry))
-        (now («start_edge» .entry)) (now («first_edge» .entry))))
-        (now (marks .entry)) ⌝ }
-{
-    let e = counts.edges;
-    let f = counts.faces;
-    let r = counts.rings;
-    let n = counts.nodes;
-    check_tile(
-        counts,
-        front_of(start_node, e),
-        front_of(end_node, e),
-        front_of(right_face, e),
-        front_of(left_face, e),
-        front_of(right_edge, e),
-        front_of(left_edge, e),
-        front_of(ring_ptr, f),
-        front_of(fac_id, r),
-        front_of(start_edge, r),
-        front_of(first_edge, n),
-        marks,
-    )
 }
 
 // Whether one of two columns has not so many rows.
@@ -400,24 +327,26 @@ pub fn check_loaded(
         first_edge,
     ) {
         AtFault::Is(file) => {
-            return Outcome::Refused(name(file, refusal::refuse(OVER_LIMIT, 0)));
+            return over_limit(file);
         }
         AtFault::Nothing => {}
     }
-    check_front(
-        counts,
-        start_node,
-        end_node,
-        right_face,
-        left_face,
-        right_edge,
-        left_edge,
-        ring_ptr,
-        fac_id,
-        start_edge,
-        first_edge,
+    let faces = front_of(ring_ptr, counts.faces);
+    let ring_faces = front_of(fac_id, counts.rings);
+    let verdict = tile::check(
+        front_of(start_node, counts.edges),
+        front_of(end_node, counts.edges),
+        front_of(right_face, counts.edges),
+        front_of(left_face, counts.edges),
+        front_of(right_edge, counts.edges),
+        front_of(left_edge, counts.edges),
+        faces,
+        ring_faces,
+        front_of(start_edge, counts.rings),
+        front_of(first_edge, counts.nodes),
         marks,
-    )
+    );
+    checked_by(counts, ring_faces, faces.len(), verdict)
 }
 
 // The walk from a ring row of the tile that stands at the front of ten columns: its steps, and its sides.

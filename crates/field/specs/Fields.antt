@@ -10,6 +10,7 @@ use Rattle.field.specs.declared.FieldType.the-variants.{Text, Latin, Flo
 use Rattle.field.specs.declared.FieldType.the-variants.{DoubleTriple, Date, NullField, Triplet}
 use Rattle.field.specs.declared.NullValue.{NullValue}
 use Rattle.field.specs.declared.NullValue.the-variants.{Nothing, Number, NotANumber}
+use Rattle.field.specs.declared.Rule.{Rule}
 use Rattle.field.specs.declared.Lookup.{Lookup}
 use Rattle.field.specs.declared.Lookup.the-variants.{Is, Unlisted}
 
@@ -79,6 +80,10 @@ nullOf DoubleTriple = Nothing
 nullOf Date = Nothing
 nullOf NullField = Nothing
 nullOf Triplet = Nothing
+
+-- all that a type knows
+abbrev pub ruleOf : FieldType → Rule
+ruleOf t = record { letter = letterOf t; width = widthOf t; star = starOf t; null = nullOf t }
 
 abbrev pub types : List FieldType
 types = Text ∷ Latin ∷ Float ∷ Double ∷ Short ∷ Integer ∷ ShortPair ∷ ShortTriple ∷ DoublePair ∷ DoubleTriple ∷ Date ∷ NullField ∷ Triplet ∷ []

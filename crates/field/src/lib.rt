@@ -1,7 +1,7 @@
 // Field types: each knows its letter, the width of its element in bytes, its null, and whether a star count is allowed.
 ghost use mathlib.Core.Path.{_≡_};
 ghost use Prim.Native.Nat.{_≤_};
-ghost use Rattle.field.specs.Fields.{letterOf, widthOf, widest, starOf, nullOf, typeOf, isInteger, isTriplet, inRange, countRight};
+ghost use Rattle.field.specs.Fields.{letterOf, widthOf, widest, starOf, nullOf, ruleOf, typeOf, isInteger, isTriplet, inRange, countRight};
 ghost use Rattle.field.specs.Nulls.{shortIsNull, integerIsNull, floatIsNull, doubleIsNull};
 
 // The value of a field type that stands for none.
@@ -259,26 +259,88 @@ fn in_range(count: u32) -> bool
     }
 }
 
+// What a type knows.
+struct Rule {
+    letter: u8,
+    width: usize,
+    star: bool,
+    null: NullValue,
+}
+
+fn rule_of(letter: u8, width: usize, star: bool, null: NullValue) -> Rule
+    ensures { λ r. ⌜ r ≡ record { letter = letter; width = width; star = star; null = null } ⌝ }
+{
+    Rule {
+        letter: letter,
+        width: width,
+        star: star,
+        null: null,
+    }
+}
+
 impl FieldType {
+    // What each type knows, by its own constants.
+    fn rule(self) -> Rule
+        ensures { λ r. ⌜ r ≡ ruleOf self ⌝ }
+        ensures { λ r. ⌜ r .width ≤ widest ⌝ }
+    {
+        match self {
+            FieldType::Text => rule_of(Text::LETTER, Text::WIDTH, Text::STAR, Text::NULL),
+            FieldType::Latin => rule_of(Latin::LETTER, Latin::WIDTH, Latin::STAR, Latin::NULL),
+            FieldType::Float => rule_of(Float::LETTER, Float::WIDTH, Float::STAR, Float::NULL),
+            FieldType::Double => rule_of(Double::LETTER, Double::WIDTH, Double::STAR, Double::NULL),
+            FieldType::Short => rule_of(Short::LETTER, Short::WIDTH, Short::STAR, Short::NULL),
+            FieldType::Integer => rule_of(
+                Integer::LETTER,
+                Integer::WIDTH,
+                Integer::STAR,
+                Integer::NULL,
+            ),
+            FieldType::ShortPair => rule_of(
+                ShortPair::LETTER,
+                ShortPair::WIDTH,
+                ShortPair::STAR,
+                ShortPair::NULL,
+            ),
+            FieldType::ShortTriple => rule_of(
+                ShortTriple::LETTER,
+                ShortTriple::WIDTH,
+                ShortTriple::STAR,
+                ShortTriple::NULL,
+            ),
+            FieldType::DoublePair => rule_of(
+                DoublePair::LETTER,
+                DoublePair::WIDTH,
+                DoublePair::STAR,
+                DoublePair::NULL,
+            ),
+            FieldType::DoubleTriple => rule_of(
+                DoubleTriple::LETTER,
+                DoubleTriple::WIDTH,
+                DoubleTriple::STAR,
+                DoubleTriple::NULL,
+            ),
+            FieldType::Date => rule_of(Date::LETTER, Date::WIDTH, Date::STAR, Date::NULL),
+            FieldType::NullField => rule_of(
+                NullField::LETTER,
+                NullField::WIDTH,
+                NullField::STAR,
+                NullField::NULL,
+            ),
+            FieldType::Triplet => rule_of(
+                Triplet::LETTER,
+                Triplet::WIDTH,
+                Triplet::STAR,
+                Triplet::NULL,
+            ),
+        }
+    }
+
     // The letter that a header has for the type.
     pub fn letter(self) -> u8
         ensures { λ r. ⌜ r ≡ letterOf self ⌝ }
     {
-        match self {
-            FieldType::Text => Text::LETTER,
-            FieldType::Latin => Latin::LETTER,
-            FieldType::Float => Float::LETTER,
-            FieldType::Double => Double::LETTER,
-            FieldType::Short => Short::LETTER,
-            FieldType::Integer => Integer::LETTER,
-            FieldType::ShortPair => ShortPair::LETTER,
-            FieldType::ShortTriple => ShortTriple::LETTER,
-            FieldType::DoublePair => DoublePair::LETTER,
-            FieldType::DoubleTriple => DoubleTriple::LETTER,
-            FieldType::Date => Date::LETTER,
-            FieldType::NullField => NullField::LETTER,
-            FieldType::Triplet => Triplet::LETTER,
-        }
+        self.rule().letter
     }
 
     // The bytes of one element. A triplet says its own length, and has 0 here.
@@ -286,63 +348,21 @@ impl FieldType {
         ensures { λ r. ⌜ r ≡ widthOf self ⌝ }
         ensures { λ r. ⌜ r ≤ widest ⌝ }
     {
-        match self {
-            FieldType::Text => Text::WIDTH,
-            FieldType::Latin => Latin::WIDTH,
-            FieldType::Float => Float::WIDTH,
-            FieldType::Double => Double::WIDTH,
-            FieldType::Short => Short::WIDTH,
-            FieldType::Integer => Integer::WIDTH,
-            FieldType::ShortPair => ShortPair::WIDTH,
-            FieldType::ShortTriple => ShortTriple::WIDTH,
-            FieldType::DoublePair => DoublePair::WIDTH,
-            FieldType::DoubleTriple => DoubleTriple::WIDTH,
-            FieldType::Date => Date::WIDTH,
-            FieldType::NullField => NullField::WIDTH,
-            FieldType::Triplet => Triplet::WIDTH,
-        }
+        self.rule().width
     }
 
     // Whether the count may be `*`.
     pub fn star(self) -> bool
         ensures { λ r. ⌜ r ≡ starOf self ⌝ }
     {
-        match self {
-            FieldType::Text => Text::STAR,
-            FieldType::Latin => Latin::STAR,
-            FieldType::Float => Float::STAR,
-            FieldType::Double => Double::STAR,
-            FieldType::Short => Short::STAR,
-            FieldType::Integer => Integer::STAR,
-            FieldType::ShortPair => ShortPair::STAR,
-            FieldType::ShortTriple => ShortTriple::STAR,
-            FieldType::DoublePair => DoublePair::STAR,
-            FieldType::DoubleTriple => DoubleTriple::STAR,
-            FieldType::Date => Date::STAR,
-            FieldType::NullField => NullField::STAR,
-            FieldType::Triplet => Triplet::STAR,
-        }
+        self.rule().star
     }
 
     // The value that stands for none.
     pub fn null(self) -> NullValue
         ensures { λ r. ⌜ r ≡ nullOf self ⌝ }
     {
-        match self {
-            FieldType::Text => Text::NULL,
-            FieldType::Latin => Latin::NULL,
-            FieldType::Float => Float::NULL,
-            FieldType::Double => Double::NULL,
-            FieldType::Short => Short::NULL,
-            FieldType::Integer => Integer::NULL,
-            FieldType::ShortPair => ShortPair::NULL,
-            FieldType::ShortTriple => ShortTriple::NULL,
-            FieldType::DoublePair => DoublePair::NULL,
-            FieldType::DoubleTriple => DoubleTriple::NULL,
-            FieldType::Date => Date::NULL,
-            FieldType::NullField => NullField::NULL,
-            FieldType::Triplet => Triplet::NULL,
-        }
+        self.rule().null
     }
 
     // The type of a letter, or that the letter is not listed.

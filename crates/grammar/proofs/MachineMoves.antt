@@ -9,7 +9,7 @@ use Rattle.laws.proofs.TestLaws.{both-true, cond-same, clash}
 use Rattle.grammar.specs.Words.{semicolon, star}
 use Rattle.grammar.specs.Fields.{rule, printable, letter, plain, digit, holds, allowed}
 use Rattle.grammar.specs.Scan.{spot, takes, closes, ends, stars, move, machine}
-use Rattle.grammar.specs.Serving.Passing.{closed}
+use Rattle.grammar.specs.Scan.{closed}
 use Rattle.grammar.specs.declared.Field.{Field}
 use Rattle.grammar.specs.declared.Field.the-variants.{OrderLetter, TableDescription, TableNarrative, Name, Kind, Numeral, AfterStar}
 use Rattle.grammar.specs.declared.Field.the-variants.{Key, Description, ValueTable, ThematicIndex, Narrative, ColumnEnd, TextEnd}

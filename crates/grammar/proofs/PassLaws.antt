@@ -16,7 +16,8 @@ use Rattle.laws.proofs.TestLaws.{both-true}
 use Rattle.grammar.specs.Words.{semicolon, star}
 use Rattle.grammar.specs.Fields.{rule, printable, plain, digit, holds, allowed}
 use Rattle.grammar.specs.Scan.{spot, takes, closes, ends, stars, machine, start, answer, scanOf}
-use Rattle.grammar.specs.Serving.Passing.{closed, restOf, stands, Run, Shut, Past}
+use Rattle.grammar.specs.Serving.Passing.{restOf, stands, Run, Shut, Past}
+use Rattle.grammar.specs.Scan.{closed}
 use Rattle.grammar.specs.declared.Field.{Field}
 use Rattle.grammar.specs.declared.Field.the-variants.{OrderLetter, Name, Numeral, AfterStar, TextEnd}
 use Rattle.grammar.specs.declared.Class.{Class}

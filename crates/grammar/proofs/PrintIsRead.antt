@@ -19,7 +19,7 @@ use Rattle.grammar.specs.declared.Field.the-variants.{OrderLetter, Table
 use Rattle.grammar.specs.declared.Field.the-variants.{Key, Description, ValueTable, ThematicIndex, Narrative, ColumnEnd, TextEnd}
 use Rattle.grammar.specs.declared.Spot.{Spot}
 use Rattle.grammar.proofs.ByteClasses.{Holds, Word, takes-exactly, text-word}
-use Rattle.grammar.specs.Serving.Passing.{closed}
+use Rattle.grammar.specs.Scan.{closed}
 use Rattle.grammar.proofs.MachineMoves.{take-step, close-step, star-step, not-own, own}
 
 -- ---- words of the paper

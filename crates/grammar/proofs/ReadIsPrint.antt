@@ -28,7 +28,7 @@ use Rattle.grammar.specs.declared.Special.{Special}
 use Rattle.grammar.specs.declared.Special.the-variants.{Usual, ColumnsMayEnd, StarMayStand, ColumnIsWhole, TextIsWhole}
 use Rattle.grammar.specs.declared.Spot.{Spot}
 use Rattle.grammar.proofs.ByteClasses.{Holds, Word, takes-exactly, word-text}
-use Rattle.grammar.specs.Serving.Passing.{closed}
+use Rattle.grammar.specs.Scan.{closed}
 use Rattle.grammar.proofs.MachineMoves.{closes-says, Way, taken, shut, over, starred, barred, way}
 use Rattle.grammar.proofs.PrintIsRead.{Leads, column-then}
 

@@ -17,7 +17,7 @@ use Rattle.grammar.specs.declared.Field.the-variants.{Key, Description, 
 use Rattle.grammar.specs.declared.Special.the-variants.{TextIsWhole}
 use Rattle.grammar.specs.declared.Spot.{Spot}
 use Rattle.grammar.proofs.ByteClasses.{Word, takes-exactly}
-use Rattle.grammar.specs.Serving.Passing.{closed}
+use Rattle.grammar.specs.Scan.{closed}
 use Rattle.grammar.proofs.MachineMoves.{Way, taken, shut, over, starred, barred, way}
 use Rattle.grammar.proofs.PrintIsRead.{Leads, feed, field-in, end-in, one-byte, no-byte}
 

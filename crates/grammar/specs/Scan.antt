@@ -1,7 +1,7 @@
 -- The machine that reads a header text byte by byte: where it stands, and what a byte does.
-use mathlib.Core.Bool.{Bool, true, false, cond}
+use mathlib.Core.Bool.{Bool, false, cond}
 use mathlib.Core.List.{List}
-use Prim.Native.Nat.{ℕ, zero, suc, _+_}
+use Prim.Native.Nat.{ℕ, _+_}
 use lib.ListN.{length}
 use lib.Dec.{ltb, leb, eqb}
 use Rattle.laws.specs.Machine.{End, ended, stuck, Next, go, stop, run}
@@ -53,12 +53,19 @@ columnsAfter ColumnsMayEnd cols = cols
 columnsAfter StarMayStand cols = cols
 columnsAfter TextIsWhole cols = cols
 
+-- where the byte that closes a field leads
+abbrev pub closed : Field → ℕ → Spot
+closed f cols = spot (rule f .next) 0 (columnsAfter (rule f .special) cols)
+
+-- what a byte does that is not taken into the field and does not close it, and what one does that is not taken into the field
+abbrev pub specialMove : Special → ℕ → ℕ → ℕ → Move
+specialMove k n cols b = cond (ends k n cols b) (To (spot TextEnd 0 cols)) (cond (stars k n b) (To (spot AfterStar 0 cols)) Stop)
+
+abbrev pub pastMove : Field → ℕ → ℕ → ℕ → Move
+pastMove f n cols b = cond (closes f n b) (To (closed f cols)) (specialMove (rule f .special) n cols b)
+
 unfoldable pub move : Spot → ℕ → Move
-move s b =
-    cond (takes (s .field) (s .n) b) (To (spot (s .field) (s .n + 1) (s .cols)))
-    (cond (closes (s .field) (s .n) b) (To (spot (rule (s .field) .next) 0 (columnsAfter (rule (s .field) .special) (s .cols))))
-    (cond (ends (rule (s .field) .special) (s .n) (s .cols) b) (To (spot TextEnd 0 (s .cols)))
-    (cond (stars (rule (s .field) .special) (s .n) b) (To (spot AfterStar 0 (s .cols))) Stop)))
+move s b = cond (takes (s .field) (s .n) b) (To (spot (s .field) (s .n + 1) (s .cols))) (pastMove (s .field) (s .n) (s .cols) b)
 
 abbrev pub nextOf : Move → Next Spot
 nextOf (To s) = go s

@@ -3,8 +3,8 @@ ghost use mathlib.Core.Path.{_≡_};
 ghost use Prim.Native.Nat.{_+_, _≤_, _<_, _^_};
 ghost use lib.ListN.{length};
 ghost use Rattle.grammar.specs.Fields.{asks, rule, printable, letter, plain, digit, holds, allowed};
-ghost use Rattle.grammar.specs.Scan.{takes, closes, ends, stars, columnsAfter, move, finish, spot, scanOf};
-ghost use Rattle.grammar.specs.Serving.Passing.{specialMove, pastMove, stands, Run, Shut, Past, closed};
+ghost use Rattle.grammar.specs.Scan.{takes, closes, ends, stars, columnsAfter, closed, specialMove, pastMove, move, finish, spot, scanOf};
+ghost use Rattle.grammar.specs.Serving.Passing.{stands, Run, Shut, Past};
 
 // The fields of the text in their order; of a column from Name to ColumnEnd.
 pub enum Field {

@@ -204,17 +204,11 @@ fn answer(kind: u8, a: &[u8], b: &[u8]) {
 }
 
 fn run_case(case: &[u8]) {
-    let label = casefile::field(case, 0);
-    let first = casefile::after(case, 0);
-    let second = casefile::after(case, first);
+    let label = casefile::part(case, 0);
     say(label);
     say(b": ");
     let kind = number::read1(label, 0, Order::Least);
-    answer(
-        kind,
-        casefile::field(case, first),
-        casefile::field(case, second),
-    );
+    answer(kind, casefile::part(case, 1), casefile::part(case, 2));
     say(b"\n");
 }
 

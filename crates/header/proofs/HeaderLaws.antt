@@ -11,15 +11,13 @@ use lib.ListN.{length, take, length-take}
 use Rattle.laws.proofs.LowestLaws.{bool-cases}
 use Rattle.header.specs.declared.Answer.the-variants as answers
 use Rattle.header.specs.declared.Step.the-variants as steps
-use Rattle.header.specs.declared.Layout.{Layout}
-use Rattle.header.specs.declared.Names.{Names}
 use Rattle.header.specs.declared.Judged.{Judged}
 use Rattle.header.specs.Places.{placeAfter}
 use Rattle.header.specs.Names.{namesOf, noNames, columnAmong}
 use Rattle.header.specs.Judge.{textLength, headOf, columnCount, headerRefusal}
 use Rattle.header.specs.Layouts.{layoutOf, blankLayout, headerOf}
 use Rattle.header.specs.Steps.{stepOf, startOf, columnOf}
-use Rattle.header.specs.Serving.Stages.{mostHead, keptOf, refusedWith, judgedFile, stepIn}
+use Rattle.header.specs.Serving.Stages.{handedOn, mostHead, keptOf, refusedWith, judgedFile, stepIn}
 use Rattle.header.proofs.JudgeLaws.{Passed, passed, sound-passed, refused-by}
 use Rattle.header.proofs.NameLaws.{part-head, names-long, named-among}
 
@@ -57,19 +55,7 @@ module _ (file : List ℕ) (f : Judged) (p : Passed file f) where
   accepted : eqb (headerRefusal file .number) 0 ≡ true
   accepted = eq-eqb (headerRefusal file .number) 0 (p .number)
 
-  pub accepted-header : record {
-    answer = answers.Accepted;
-    layout = record {
-      order = f .order;
-      start = f .start;
-      columns = f .columns;
-      id = f .id;
-      width = f .kept .width;
-      cols = f .kept .cols;
-    };
-    names = f .kept .names;
-  }
-      ≡ headerOf file
+  pub accepted-header : handedOn f ≡ headerOf file
   unfolding headerOf layoutOf keptOf
   accepted-header =
       rw accepted
@@ -113,10 +99,9 @@ module _ (file : List ℕ) (r : Judged) (h : (r ≡ refusedWith (headerRefusal f
   not-accepted : eqb (headerRefusal file .number) 0 ≡ false
   not-accepted = ne-eqb (headerRefusal file .number) 0 (h .1)
 
-  pub refused-header : (l : Layout) (names : Names) → l ≡ blankLayout → names ≡ noNames
-      → record { answer = answers.Refused (r .refusal); layout = l; names = names } ≡ headerOf file
+  pub refused-header : record { answer = answers.Refused (r .refusal); layout = blankLayout; names = noNames } ≡ headerOf file
   unfolding headerOf
-  refused-header l names e g = rw not-accepted (λ t. record { answer = answers.Refused (h .0 t .refusal); layout = e t; names = g t })
+  refused-header = rw not-accepted (λ t. record { answer = answers.Refused (h .0 t .refusal); layout = blankLayout; names = noNames })
 
   pub refused-step : (place : ℕ) → steps.Refused (r .refusal) ≡ stepOf file place
   unfolding stepOf

@@ -160,7 +160,7 @@ fn judge_columns(head: &[u8], order: Order, n: usize) -> Judged
     requires { ⌜ length (now head) ≤ mostHead ⌝ }
     ensures { λ r. ⌜ r ≡ judged (firstOf (columnTests (now (head .entry)) n)) (acceptedOf order (length (now (head .entry))) (now (head .entry)) n) ⌝ }
 {
-    let kept = layouts::gather(head, naming::within_limit(n));
+    let kept = layouts::gather(head, limits::columns_within(n));
     if kept.wrong != 0 {
         return refused(refusal::refuse(WRONG_DEFINITION, kept.wrong));
     }

@@ -11,9 +11,12 @@ use limits::MOST_COLUMNS;
 use number::Order;
 use refusal::Refusal;
 ghost use mathlib.Core.Path.{_≡_};
+ghost use Prim.Native.Nat.{_<_};
 ghost use Rattle.header.specs.Names.{noNames, columnAmong};
 ghost use Rattle.header.specs.Layouts.{blankLayout, headerOf};
 ghost use Rattle.header.specs.Steps.{stepOf, startOf, columnOf};
+ghost use Rattle.header.specs.Serving.Stages.{handedOn};
+ghost use Rattle.header.specs.declared.Answer.the-variants as answers;
 
 // A part of the file.
 pub struct Span {
@@ -131,24 +134,25 @@ pub fn no_names() -> Names
     }
 }
 
-// The header of a table file: accepted, or refused with one number and one place; what rows need of it; and where the names lie.
-// Example: the ring table of document 01, with columns id, fac_id and start_edge of type I, has L = 93, and its rows of 12 bytes start at
-// byte 97. With L = 92 its last `;` is outside the text: refused with 3 at 96.
-pub fn read_header(file: &[u8]) -> Header
-    ensures { λ r. ⌜ r ≡ headerOf (now (file .entry)) ⌝ }
+// A refused header hands nothing on.
+fn refused_header(q: Refusal) -> Header
+    ensures { λ r. ⌜ r ≡ record { answer = answers.Refused q; layout = blankLayout; names = noNames } ⌝ }
 {
-    let judged = judge::judge_file(file);
-    let q = judged.refusal;
-    if q.number != 0 {
-        let layout = blank_layout();
-        let names = no_names();
-        let answer = Answer::Refused(q);
-        return Header {
-            answer: answer,
-            layout: layout,
-            names: names,
-        };
+    let layout = blank_layout();
+    let names = no_names();
+    let answer = Answer::Refused(q);
+    Header {
+        answer: answer,
+        layout: layout,
+        names: names,
     }
+}
+
+// What rows need of an accepted header, and where its names lie.
+fn accepted_header(judged: Judged) -> Header
+    requires { ⌜ judged .start < 4294967296 ⌝ }
+    ensures { λ r. ⌜ r ≡ handedOn judged ⌝ }
+{
     let order = judged.order;
     let kept = judged.kept;
     let cols = kept.cols;
@@ -167,6 +171,20 @@ pub fn read_header(file: &[u8]) -> Header
         layout: layout,
         names: names,
     }
+}
+
+// The header of a table file: accepted, or refused with one number and one place; what rows need of it; and where the names lie.
+// Example: the ring table of document 01, with columns id, fac_id and start_edge of type I, has L = 93, and its rows of 12 bytes start at
+// byte 97. With L = 92 its last `;` is outside the text: refused with 3 at 96.
+pub fn read_header(file: &[u8]) -> Header
+    ensures { λ r. ⌜ r ≡ headerOf (now (file .entry)) ⌝ }
+{
+    let judged = judge::judge_file(file);
+    let q = judged.refusal;
+    if q.number != 0 {
+        return refused_header(q);
+    }
+    accepted_header(judged)
 }
 
 // One step of a reader that stands at the place.
@@ -210,5 +228,5 @@ pub fn column_among(file: &[u8], names: Names, columns: usize, name: &[u8]) -> u
 {
     let starts = names.starts;
     let ends = names.ends;
-    naming::column_by_name(file, &starts, &ends, naming::within_limit(columns), name)
+    naming::column_by_name(file, &starts, &ends, limits::columns_within(columns), name)
 }

@@ -1,10 +1,8 @@
 // Column names, case ignored, found by where they lie.
-use limits::MOST_COLUMNS;
 ghost use mathlib.Core.Path.{_≡_};
-ghost use Prim.Native.Nat.{min, _-_, _≤_};
+ghost use Prim.Native.Nat.{_-_, _≤_};
 ghost use lib.ListN.{length, take, drop};
 ghost use Rattle.laws.specs.Lowest.{lowest};
-ghost use Rattle.limits.specs.Limits.{mostColumns};
 ghost use Rattle.header.specs.Names.{lower, sameText, namedBefore, namesFrom, namesOf, isAmong};
 ghost use Rattle.header.specs.Places.{part, span};
 
@@ -50,13 +48,6 @@ fn bytes_between(file: &[u8], start: usize, end: usize) -> &[u8]
         return &file[0..0];
     }
     &file[start..end]
-}
-
-// The lesser of a number of columns and the limit.
-pub(crate) fn within_limit(n: usize) -> usize
-    ensures { λ r. ⌜ r ≡ min n mostColumns ⌝ }
-{
-    if n <= MOST_COLUMNS { n } else { MOST_COLUMNS }
 }
 
 // The lowest of n columns whose part of the file is the name, case ignored, or 0.

@@ -155,13 +155,10 @@ fn say_header(file: &[u8]) {
 }
 
 fn run_case(case: &[u8]) {
-    let first = casefile::after(case, 0);
-    let second = casefile::after(case, first);
-    let third = casefile::after(case, second);
-    let file = casefile::field(case, first);
-    let place = number::read8(casefile::field(case, second), 0, Order::Least) as usize;
-    let name = casefile::field(case, third);
-    say(casefile::field(case, 0));
+    let file = casefile::part(case, 1);
+    let place = number::read8(casefile::part(case, 2), 0, Order::Least) as usize;
+    let name = casefile::part(case, 3);
+    say(casefile::part(case, 0));
     say(b": ");
     say_header(file);
     say_step(file, place);

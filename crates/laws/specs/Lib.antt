@@ -7,5 +7,6 @@ pub mod Machine
 pub mod Language
 pub mod Foremost
 pub mod Partition
+pub mod Runs
 pub mod Texts
 pub mod Serving

@@ -1,5 +1,8 @@
 // The limits of document 01, each said once in code. `specs/Limits` says them once for the definitions; a proof that needs both finds
 // them equal by their values.
+ghost use mathlib.Core.Path.{_≡_};
+ghost use Prim.Native.Nat.{min};
+ghost use Rattle.limits.specs.Limits.{mostColumns};
 
 // "15: L over 32,767"
 pub const MOST_TEXT: usize = 32767;
@@ -17,3 +20,10 @@ pub const PROGRAM_ROWS: usize = 1000;
 
 // An edge has two sides.
 pub const PROGRAM_SIDES: usize = 2 * PROGRAM_ROWS;
+
+// As many of n columns as a layout has room for.
+pub fn columns_within(n: usize) -> usize
+    ensures { λ r. ⌜ r ≡ min n mostColumns ⌝ }
+{
+    if n <= MOST_COLUMNS { n } else { MOST_COLUMNS }
+}

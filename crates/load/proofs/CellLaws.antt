@@ -133,3 +133,10 @@ cells-read file index l i n end origin places columns letters cells t there last
     t .cell (getD columns k 0) d (omega (arith, h .1)) (getD letters k 0) _
     (rw c (front-low (λ k. letterOf (columnAt l (getD columns k 0) .kind)) 6 (replicate 6 0) k one))
     (rw e (front-low (λ k. cellAt (l .order) file (getD letters k 0) (getD columns k 0) places origin end) 6 (replicate 6 0) k one))
+
+-- each of them written in its own column
+module _ (g : ℕ → ℕ → ℕ) (i rows : ℕ) (cells : List ℕ) (more : i < rows) (read : (k : ℕ) → k < 6 → getD cells k 0 ≡ g (suc k) i) where
+  pub written-cell : (k : ℕ) → k < 6 → (old new next : List ℕ) → Written (g (suc k)) i old new → next ≡ set new i (getD cells k 0)
+      → rows ≤ length old
+      → Written (g (suc k)) (i + 1) old next
+  written-cell k one old new next w p h = written-next (g (suc k)) i (getD cells k 0) old new next w p (read k one) (omega arith)

@@ -25,12 +25,13 @@ use Rattle.header.specs.Steps.{columnOf}
 use Rattle.opening.specs.declared.Table.{Table}
 use Rattle.table.specs.declared.Value.{Value}
 use Rattle.table.specs.declared.Value.the-variants as val
-use Rattle.table.specs.Rows.{columnAt, boundOf, columnPlace}
-use Rattle.table.specs.Values.{integerOf, tripletOfRead, byType, shown, valueOf}
-use Rattle.opening.specs.Words.{layoutOf, Opens}
+use Rattle.table.specs.Rows.{columnAt, columnPlace}
+use Rattle.table.specs.Values.{integerOf, tripletOfRead, byType, fieldIn, shown, valueOf}
+use Rattle.opening.specs.Words.{Opens}
 use Rattle.table.specs.Words.{RowRight, SameRow}
 use Rattle.opening.proofs.OpenedExactly.{opened-table}
 use Rattle.table.proofs.RowExactly.{inside-file}
+use Rattle.table.specs.Serving.OpenedRows.{OpenedRow, openedRow}
 use Rattle.table.proofs.ValueOfRow.{value-of-row}
 use Rattle.taken.specs.Numbers.{natural, internalId, numberIn}
 use Rattle.load.specs.declared.TableName.{TableName}
@@ -79,24 +80,13 @@ number-shown type.Date o s c p end = refl
 number-shown type.NullField o s c p end = refl
 
 -- a cell is the number of the value that its field shows
-cell-shown : (s : List ℕ) (l : Layout) (start end k : ℕ)
-    → cellIn s l start end k ≡ loaded (shown (l .order) s (columnAt l k) (columnPlace s l start end k) end)
+cell-shown : (s : List ℕ) (l : Layout) (start end k : ℕ) → cellIn s l start end k ≡ loaded (fieldIn s l k start end)
 unfolding cellIn shown
 cell-shown s l start end k = number-shown (columnAt l k .kind) (l .order) s (columnAt l k) (columnPlace s l start end k) end
 
 -- ---- column k of row i + 1, which is right, of an opened table
 module _ (file index : List ℕ) (most : ℕ) (h : Reading) (n : ℕ) (o : Opens file index most h n) (i : ℕ) (more : i < n) where
-  abbrev l : Layout
-  l = layoutOf file
-
-  abbrev start : ℕ
-  start = boundOf l index i
-
-  abbrev end : ℕ
-  end = boundOf l index (suc i)
-
-  abbrev opened : Table
-  opened = record { layout = l; rows = n }
+  open OpenedRow (openedRow file index n (suc i)) using (layout as l, table as opened, start, end)
 
   abbrev row-in : In n (suc i)
   row-in = (omega arith, more)

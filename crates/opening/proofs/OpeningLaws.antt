@@ -1,8 +1,8 @@
 -- The laws of index entries, and of an opening that goes on after the header.
 use mathlib.Core.Path.{_≡_, refl, sym, ap, _∙_}
 use mathlib.Core.Bool.{Bool, true, false, cond, not}
-use mathlib.Core.List.{List}
-use Prim.Native.Nat.{ℕ, zero, suc, min, _+_, _≤_, _<_}
+use mathlib.Core.List.{List, [], _∷_}
+use Prim.Native.Nat.{ℕ, zero, suc, min, _+_, _-_, _*_, _/_, _%_, _≤_, _<_}
 use native.Mathlib.Omega.{arith}
 use native.Mathlib.Numerals.{add-one}
 use lib.Dec.{eqb, ltb}
@@ -12,8 +12,11 @@ use Rattle.laws.proofs.LowestLaws.{bool-cases}
 use Rattle.laws.proofs.TestLaws.{clash}
 use Rattle.refusal.specs.declared.Refusal.{Refusal}
 use Rattle.laws.specs.Lowest.{lowest}
-use Rattle.refusal.specs.Order.{refusal, fine, refusedIf, located, first}
-use Rattle.refusal.proofs.OrderLaws.{first-passes, first-refuses, located-zero, located-at, located-passes}
+use Rattle.refusal.specs.Order.{refusal, fine, refusedIf, located, first, firstOf}
+use Rattle.refusal.proofs.OrderLaws.{first-passes, first-refuses, first-within, goes-on, located-zero, located-at, located-passes}
+use Rattle.number.specs.declared.Order.{Order}
+use Rattle.number.specs.Bytes.{number}
+use Rattle.number.proofs.NumberLaws.{number-outside}
 use Rattle.header.specs.declared.Layout.{Layout}
 use Rattle.header.specs.declared.Header.{Header}
 use Rattle.header.specs.declared.Names.{Names}
@@ -26,8 +29,19 @@ use Rattle.header.proofs.HeaderLaws.{among-names}
 use Rattle.opening.specs.declared.Table.{Table}
 use Rattle.opening.specs.declared.Opened.{Opened}
 use Rattle.limits.specs.Limits.{mostRows}
-use Rattle.opening.specs.Opening.{needsIndex, entriesSaid, offsetAt, lengthAt, endAt, entryWrong, headWrong, indexRefusal}
-use Rattle.opening.specs.Opening.{rowsSaid, bodyRefusal, openRefusal, tableRefusal, tableFrom, noTable, openedAs, openedOf}
+use Rattle.opening.specs.Opening.{needsIndex, entriesSaid, offsetAt, lengthAt, entryEnd, endAt, entryWrong, headWrong, indexRefusal}
+use Rattle.opening.specs.Opening.{fixedRefusal, rowsSaid, bodyRefusal, openRefusal, tableRefusal, tableFrom, noTable, openedAs, openedOf}
+
+-- ---- where a row ends by its entry: an entry past the index says 0
+module _ (o : Order) (index : List ℕ) (first : ℕ) where
+  pub no-entry : (k : ℕ) → length index / 8 < k → 0 ≡ entryEnd o index first k
+  no-entry zero h = absurd (omega arith)
+  no-entry (suc k) h =
+      rw (number-outside o index (8 * suc k) 4 (omega arith), number-outside o index (8 * suc k + 4) 4 (omega arith))
+
+  pub by-entry : (k a b : ℕ) → (k ≡ 0 → ⊥) → a ≡ number o index (8 * k) 4 → b ≡ number o index (8 * k + 4) 4 → a + b ≡ entryEnd o index first k
+  by-entry zero a b h e f = absurd (h refl)
+  by-entry (suc k) a b h e f = rw (e, f)
 
 module _ (l : Layout) (index : List ℕ) where
   -- where row 1 starts
@@ -90,6 +104,10 @@ module _ (l : Layout) (index : List ℕ) (size : ℕ) where
     index-fine z u = sym (passes-entries z ∙ rw (eq-eqb (endAt l index n) size u))
 
 -- ---- the tests after the header's own, one after the other
+test-ends : (b : Bool) (n p : ℕ) → (n ≡ 0 → ⊥) → firstOf (refusedIf b n p ∷ []) ≡ refusedIf b n p
+test-ends true n p h = first-refuses (refusal n p) fine h
+test-ends false n p h = first-passes fine fine refl
+
 module _ (l : Layout) (index : List ℕ) (size most : ℕ) where
   abbrev lacks : Bool
   lacks = cond (needsIndex l) (ltb (length index) 8) false
@@ -103,17 +121,38 @@ module _ (l : Layout) (index : List ℕ) (size most : ℕ) where
   unfolding openRefusal first
   open-rows h rows e u = rw (h, ← e, lt-ltb (min most mostRows) rows u)
 
+  -- nothing comes after the body's own tests
+  body-ends : firstOf (bodyRefusal l index size ∷ []) ≡ bodyRefusal l index size
+  unfolding indexRefusal fixedRefusal
+  body-ends =
+      bool-cases (needsIndex l)
+      (λ t.
+      rw t
+      (first-within
+      (refusedIf (headWrong l index) 8 0
+      ∷ located 8 (lowest (entryWrong l index) (entriesSaid l index))
+      ∷ refusedIf (not (eqb (endAt l index (entriesSaid l index)) size)) 8 (entriesSaid l index)
+      ∷ [])))
+      (λ t. rw t (test-ends (cond (eqb (length index) 0) (not (eqb ((size - l .start) % l .width) 0)) true) 7 size (λ z. omega arith)))
+
   pub open-rest : lacks ≡ false → (rows : ℕ) → rows ≡ rowsSaid l index size → rows ≤ min most mostRows → (b : Refusal)
       → b ≡ bodyRefusal l index size
-      → first b fine ≡ openRefusal l index size most
+      → b ≡ openRefusal l index size most
   unfolding openRefusal
   open-rest h rows e u b q =
-      sym
-      (first-passes (refusedIf lacks 8 0) (first (refusedIf (ltb (min most mostRows) (rowsSaid l index size)) 15 0) (first
-      (bodyRefusal l index size) fine)) (ap (λ (t : Bool). refusedIf t 8 0 .number) h)
-      ∙ first-passes (refusedIf (ltb (min most mostRows) (rowsSaid l index size)) 15 0) (first (bodyRefusal l index size) fine) (ap (λ
-      (t : Bool). refusedIf t 15 0 .number) (ap (ltb (min most mostRows)) (sym e) ∙ le-ltb (min most mostRows) rows u))
-      ∙ ap (λ (r : Refusal). first r fine) (sym q))
+      let many = refusedIf (ltb (min most mostRows) (rowsSaid l index size)) 15 0 in
+      goes-on (refusedIf lacks 8 0) (refusedIf lacks 8 0) b (many ∷ bodyRefusal l index size ∷ []) refl
+      (ap (λ (t : Bool). refusedIf t 8 0 .number) h)
+      (goes-on many many b (bodyRefusal l index size ∷ []) refl
+      (ap (λ (t : Bool). refusedIf t 15 0 .number) (ap (ltb (min most mostRows)) (sym e) ∙ le-ltb (min most mostRows) rows u))
+      (q ∙ sym body-ends))
+
+  -- nor after an opening's
+  open-ends : firstOf (openRefusal l index size most ∷ []) ≡ openRefusal l index size most
+  unfolding openRefusal
+  open-ends =
+      first-within
+      (refusedIf lacks 8 0 ∷ refusedIf (ltb (min most mostRows) (rowsSaid l index size)) 15 0 ∷ bodyRefusal l index size ∷ [])
 
 -- ---- the answer of a header
 pub answered-accepted : (q : Refusal) → answered q ≡ Accepted → q .number ≡ 0
@@ -157,14 +196,15 @@ module _ (file index : List ℕ) (most : ℕ) (h : Header) (e : h ≡ headerOf f
       (λ z. a .1 (ap (λ (q : Refusal). q .number) (a .0) ∙ z))))
 
   pub header-accepted : (r : Opened) → h .answer ≡ Accepted
-      → r ≡ openedAs (first (openRefusal (h .layout) index (length file) most) fine) (tableFrom (h .layout) index (length file)) (h .names)
+      → r ≡ openedAs (openRefusal (h .layout) index (length file) most) (tableFrom (h .layout) index (length file)) (h .names)
       → r ≡ openedOf file index most
   unfolding openedOf tableRefusal
   header-accepted r f g =
       let z = answered-accepted (headerRefusal file) (sym answer-is ∙ f) in
-      let o : Header → Opened = λ h. openedAs (first (openRefusal (h .layout) index (length file) most) fine)
+      let q = openRefusal (headerOf file .layout) index (length file) most in
+      let o : Header → Opened = λ h. openedAs (openRefusal (h .layout) index (length file) most)
       (tableFrom (h .layout) index (length file)) (h .names) in
-      rw (first-passes (headerRefusal file) (first (openRefusal (headerOf file .layout) index (length file) most) fine) z) (g ∙ ap o e)
+      rw (first-passes (headerRefusal file) (first q fine) z, open-ends (headerOf file .layout) index (length file) most) (g ∙ ap o e)
 
 -- THE COLUMN OF A NAME, found among the names that an opened table gives on
 pub opened-column : (file index : List ℕ) (most : ℕ) → tableRefusal file index most .number ≡ 0 → (name : List ℕ)

@@ -8,6 +8,7 @@ use lib.ListN.{length}
 use Rattle.laws.specs.Lowest.{lowest}
 use Rattle.refusal.specs.declared.Refusal.{Refusal}
 use Rattle.refusal.specs.Order.{refusedIf, located, firstOf}
+use Rattle.number.specs.declared.Order.{Order}
 use Rattle.number.specs.Bytes.{number}
 use Rattle.header.specs.declared.Layout.{Layout}
 use Rattle.header.specs.declared.Names.{Names}
@@ -36,10 +37,14 @@ offsetAt l index k = number (l .order) index (8 * k) 4
 abbrev pub lengthAt : Layout → List ℕ → ℕ → ℕ
 lengthAt l index k = number (l .order) index (8 * k + 4) 4
 
--- where row k ends by its entry; row 0, which is none, where row 1 starts: "Row 1 starts at L + 4"
+-- where row k ends by its entry, in a file of the order whose row 1 starts at `first`; row 0, which is none, ends there
+abbrev pub entryEnd : Order → List ℕ → ℕ → ℕ → ℕ
+entryEnd o index first zero = first
+entryEnd o index first (suc k) = number o index (8 * suc k) 4 + number o index (8 * suc k + 4) 4
+
+-- in a table of the layout: "Row 1 starts at L + 4"
 unfoldable pub endAt : Layout → List ℕ → ℕ → ℕ
-endAt l index zero = l .start
-endAt l index (suc k) = offsetAt l index (suc k) + lengthAt l index (suc k)
+endAt l index k = entryEnd (l .order) index (l .start) k
 
 -- "each next row where the last ended"
 abbrev pub entryWrong : Layout → List ℕ → ℕ → Bool

@@ -3,6 +3,7 @@ use header::Answer;
 use header::Layout;
 use header::Names;
 use limits::MOST_ROWS;
+use number::Order;
 use refusal::OVER_LIMIT;
 use refusal::Refusal;
 use refusal::WRONG_BODY;
@@ -13,11 +14,10 @@ ghost use Prim.Native.Nat.{min, _-_, _<_};
 ghost use lib.Dec.{ltb};
 ghost use lib.ListN.{length};
 ghost use Rattle.laws.specs.Lowest.{lowest};
-ghost use Rattle.refusal.specs.Order.{fine, first};
 ghost use Rattle.header.specs.declared.Answer.the-variants as answer;
 ghost use Rattle.header.specs.Names.{noNames};
 ghost use Rattle.limits.specs.Limits.{mostRows};
-ghost use Rattle.opening.specs.Opening.{needsIndex, endAt, entryWrong, sizeWrong, headWrong, indexRefusal, fixedRefusal};
+ghost use Rattle.opening.specs.Opening.{needsIndex, entryEnd, entryWrong, sizeWrong, headWrong, indexRefusal, fixedRefusal};
 ghost use Rattle.opening.specs.Opening.{rowsSaid, bodyRefusal, openRefusal, tableFrom, noTable, openedAs, openedOf};
 
 // An opened table: what its header says of the rows, and how many there are. Whoever has one may lend it with any file: rows past
@@ -111,15 +111,16 @@ fn wrong_entry(index: &[u8], layout: Layout, n: u32) -> usize
     0
 }
 
-// The end of row k by its entry, which stands at 8k; of row 0, where row 1 starts.
-fn end_at(index: &[u8], layout: Layout, k: usize) -> usize
-    requires { ⌜ k < 4294967296 ⌝ }
-    ensures { λ r. ⌜ r ≡ endAt layout (now (index .entry)) k ⌝ }
+// Where row k ends by its entry, which stands at 8k, and row k + 1 starts; row 1 starts at `first`. What is not in the index reads as 0.
+pub fn entry_end(index: &[u8], order: Order, first: u32, k: usize) -> usize
+    ensures { λ r. ⌜ r ≡ entryEnd order (now (index .entry)) first k ⌝ }
 {
     if k == 0 {
-        return layout.start as usize;
+        return first as usize;
     }
-    let order = layout.order;
+    if index.len() / 8 < k {
+        return 0;
+    }
     let at = 8 * k;
     number::read4(index, at, order) as usize + number::read4(index, at + 4, order) as usize
 }
@@ -137,7 +138,7 @@ fn judge_index(index: &[u8], layout: Layout, size: usize) -> Refusal
     if wrong != 0 {
         return refusal::refuse(WRONG_INDEX, wrong);
     }
-    if end_at(index, layout, n as usize) != size {
+    if entry_end(index, order, layout.start, n as usize) != size {
         return refusal::refuse(WRONG_INDEX, n as usize);
     }
     refusal::no_refusal()
@@ -185,7 +186,7 @@ fn judge_opening(index: &[u8], layout: Layout, size: usize, most: usize) -> Refu
     if most_taken(most) < rows {
         return refusal::refuse(OVER_LIMIT, 0);
     }
-    refusal::first_of_two(judge_body(index, layout, size), refusal::no_refusal())
+    judge_body(index, layout, size)
 }
 
 // A refused table.
@@ -208,12 +209,9 @@ fn not_opened(q: Refusal) -> Opened
 
 // A table whose header is accepted.
 fn open_body(index: &[u8], layout: Layout, names: Names, size: usize, most: usize) -> Opened
-    ensures { λ r. ⌜ r ≡ openedAs (first (openRefusal layout (now (index .entry)) size most) fine) (tableFrom layout (now (index .entry)) size) names ⌝ }
+    ensures { λ r. ⌜ r ≡ openedAs (openRefusal layout (now (index .entry)) size most) (tableFrom layout (now (index .entry)) size) names ⌝ }
 {
-    let judged = refusal::first_of_two(
-        judge_opening(index, layout, size, most),
-        refusal::no_refusal(),
-    );
+    let judged = judge_opening(index, layout, size, most);
     if judged.number != 0 {
         return not_opened(judged);
     }

@@ -81,13 +81,10 @@ fn say_steps(file: &[u8], first: usize, count: usize) {
 }
 
 fn run_case(case: &[u8]) {
-    let first = casefile::after(case, 0);
-    let second = casefile::after(case, first);
-    let third = casefile::after(case, second);
-    let file = casefile::field(case, first);
-    let count = number::read2(casefile::field(case, second), 0, Order::Least) as usize;
-    let place = number::read8(casefile::field(case, third), 0, Order::Least) as usize;
-    say(casefile::field(case, 0));
+    let file = casefile::part(case, 1);
+    let count = number::read2(casefile::part(case, 2), 0, Order::Least) as usize;
+    let place = number::read8(casefile::part(case, 3), 0, Order::Least) as usize;
+    say(casefile::part(case, 0));
     say(b": a new reader at ");
     say_number(header::first_place(file) as u64);
     say(b"\n");

@@ -4,7 +4,7 @@ use mathlib.Core.Path.{_≡_, refl, sym, ap, subst, _∙_}
 use mathlib.Core.Logic.{⊎-elim}
 use mathlib.Core.Bool.{false}
 use mathlib.Core.List.{List}
-use Prim.Native.Nat.{ℕ, pred, _*_, _≤_}
+use Prim.Native.Nat.{ℕ, _*_, _≤_}
 use native.Mathlib.Omega.{arith}
 use lib.Ieee.{Format, binary32, binary64}
 use lib.ListN.{length, drop, length-take, length-drop}
@@ -22,16 +22,15 @@ use Rattle.bounds.specs.declared.Parts.the-variants.{Two, Three}
 use Rattle.bounds.specs.Bounds.{partCount, partBytes, count}
 use Rattle.bounds.proofs.ReadLaws.{count-exact}
 use Rattle.header.specs.declared.ColumnLayout.{ColumnLayout}
-use Rattle.header.specs.declared.Layout.{Layout}
 use Rattle.header.specs.Words as read
-use Rattle.opening.specs.declared.Table.{Table}
 use Rattle.table.specs.declared.Value.{Value}
 use Rattle.table.specs.declared.Value.the-variants as value
-use Rattle.table.specs.Rows.{columnAt, boundOf, columnPlace}
+use Rattle.table.specs.Rows.{columnAt, columnPlace}
 use Rattle.table.specs.Values.{elementsStart, elementsBytes, shown, valueOf, partOf}
-use Rattle.opening.specs.Words.{layoutOf, Opens}
+use Rattle.opening.specs.Words.{Opens}
 use Rattle.table.specs.Words.{RowRight, PartInside}
 use Rattle.table.proofs.RowExactly.{means, inside-file}
+use Rattle.table.specs.Serving.OpenedRows.{OpenedRow, openedRow}
 use Rattle.table.proofs.ValueOfRow.{value-of-row, value-inside}
 use Rattle.rectangle.specs.Words.{typeWith, coordinatesSaid, line}
 
@@ -63,17 +62,7 @@ unfolding partOf
 part-length s start end p n a b = length-take n (drop p s) ∙ omega (arith, length-drop p s, b .0, b .1)
 
 module _ (file index : List ℕ) (most : ℕ) (h : Reading) (n : ℕ) (o : Opens file index most h n) (i : ℕ) (r : In n i) where
-  abbrev l : Layout
-  l = layoutOf file
-
-  abbrev start : ℕ
-  start = boundOf l index (pred i)
-
-  abbrev end : ℕ
-  end = boundOf l index i
-
-  abbrev opened : Table
-  opened = record { layout = l; rows = n }
+  open OpenedRow (openedRow file index n i) using (layout as l, table as opened, start, end)
 
   module _ (right : RowRight file l start end i) (k : ℕ) (c : In (l .columns) k) (f : Format) (p : Parts)
       (e : columnAt l k .kind ≡ typeWith f p) where

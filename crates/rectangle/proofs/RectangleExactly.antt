@@ -24,8 +24,8 @@ use Rattle.opening.specs.declared.Table.{Table}
 use Rattle.table.specs.declared.Row.{Row}
 use Rattle.table.specs.declared.Row.the-variants as row
 use Rattle.table.specs.declared.Value.{Value}
-use Rattle.table.specs.Rows.{rowsOf, columnsOf, noSuchRow, noSuchColumn, columnAt, columnPlace, rowOf}
-use Rattle.table.specs.Values.{shown, inRow as valueInRow, partOf}
+use Rattle.table.specs.Rows.{rowsOf, columnsOf, noSuchRow, noSuchColumn, columnAt, rowOf}
+use Rattle.table.specs.Values.{inRow as valueInRow, fieldIn, partOf}
 use Rattle.table.specs.Words.{RowThere, ColumnThere, NoRow}
 use Rattle.table.proofs.RowExactly.{there}
 use Rattle.table.proofs.RowLaws.{such}
@@ -81,9 +81,6 @@ module _ (file index : List ℕ) (t : Table) (i k : ℕ) where
   abbrev column : ColumnLayout
   column = columnAt l k
 
-  abbrev field : ℕ → ℕ → Value
-  field start end = shown (l .order) file column (columnPlace file l start end k) end
-
   -- an accepted row is there
   row-is-there : RowAccepted file index t i k → noSuchRow t i ≡ false
   row-is-there w = there (rowsOf t) i (accepted-there file index t i (w .0) (w .1) (w .2))
@@ -120,7 +117,7 @@ module _ (file index : List ℕ) (t : Table) (i k : ℕ) where
           ∙ ap (λ (x : FieldType). byType x (l .order) (coordinatesIn file l k start end) k) h
           ∙ by-width f p (l .order) (coordinatesIn file l k start end) k
           ∙ ap (λ (v : Value). bounded f (boundsOf (coordinates f p (l .order) (partOf file v))))
-          (sym (v ∙ ap (λ (x : Row). valueInRow x field) e))
+          (sym (v ∙ ap (λ (x : Row). valueInRow x (fieldIn file l k)) e))
 
   -- what an answer means
   abbrev Means : Answer → Type 0

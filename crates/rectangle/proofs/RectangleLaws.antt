@@ -7,7 +7,6 @@ use mathlib.Core.List.{List}
 use Prim.Native.Nat.{ℕ}
 use borrow.Author.Tests.{eq-eqb, ne-eqb}
 use lib.Ieee.{Format, binary32, binary64}
-use Rattle.refusal.specs.declared.Refusal.{Refusal}
 use Rattle.number.specs.declared.Order.{Order}
 use Rattle.field.specs.declared.FieldType.{FieldType}
 use Rattle.field.specs.declared.FieldType.the-variants as type
@@ -20,7 +19,7 @@ use Rattle.table.specs.declared.Row.{Row}
 use Rattle.table.specs.declared.Row.the-variants as row
 use Rattle.table.specs.declared.Value.{Value}
 use Rattle.table.specs.Rows.{rowsOf, columnsOf, noSuchRow, noSuchColumn, columnAt, columnPlace, rowOf}
-use Rattle.table.specs.Values.{byType as valueByType, shown, inRow as valueInRow, valueOf, partOf}
+use Rattle.table.specs.Values.{byType as valueByType, shown, inRow as valueInRow, fieldIn, valueOf}
 use Rattle.table.proofs.RowLaws.{such}
 use Rattle.table.proofs.ValueRefusedExactly.{refused-numbered, value-in-row}
 use Rattle.rectangle.specs.Rectangles.{Answer, byType, isCoordinates, refusalOf, foundIn, inRow, coordinatesIn, rectangleOf}
@@ -71,17 +70,14 @@ module _ (file index : List ℕ) (t : Table) (i k : ℕ) where
   abbrev column : ColumnLayout
   column = columnAt l k
 
-  abbrev field : ℕ → ℕ → Value
-  field start end = shown (l .order) file column (columnPlace file l start end k) end
-
   abbrev bounds : ℕ → ℕ → Answer
   bounds start end = byType (column .kind) (l .order) (coordinatesIn file l k start end) k
 
   found-in-row : isCoordinates (column .kind) ≡ true → (x : Row) → rowOf file index t i ≡ x
-      → foundIn file (column .kind) (l .order) k (valueInRow x field) ≡ inRow x bounds
+      → foundIn file (column .kind) (l .order) k (valueInRow x (fieldIn file l k)) ≡ inRow x bounds
   unfolding foundIn
   found-in-row c (row.Between start end) e =
-      rw (eq-eqb (refusalOf (field start end) .number) 0 (shown-fine (l .order) file column (columnPlace file l start end k) end c))
+      rw (eq-eqb (refusalOf (fieldIn file l k start end) .number) 0 (shown-fine (l .order) file column (columnPlace file l start end k) end c))
   found-in-row c (row.Refused q) e = rw (ne-eqb (q .number) 0 (refused-numbered file index t i q e))
 
   -- WHAT IS FOUND IN THE VALUE IS THE RECTANGLE, of a row and a column of coordinates that are there

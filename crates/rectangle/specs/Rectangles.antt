@@ -18,8 +18,8 @@ use Rattle.table.specs.declared.Row.{Row}
 use Rattle.table.specs.declared.Row.the-variants as row
 use Rattle.table.specs.declared.Value.{Value}
 use Rattle.table.specs.declared.Value.the-variants as value
-use Rattle.table.specs.Rows.{noSuchRow, noSuchColumn, columnAt, columnPlace, rowOf}
-use Rattle.table.specs.Values.{shown, partOf}
+use Rattle.table.specs.Rows.{noSuchRow, noSuchColumn, columnAt, rowOf}
+use Rattle.table.specs.Values.{fieldIn, partOf}
 use Rattle.rectangle.specs.declared.Found.{Found}
 use Rattle.rectangle.specs.declared.Found.the-variants.{Short, Double, Refused}
 
@@ -102,7 +102,7 @@ inRow (row.Refused q) f = refusedWith q
 
 -- the coordinates in column k of a row from start to end: the part of the file that the field shows
 abbrev pub coordinatesIn : List ℕ → Layout → ℕ → ℕ → ℕ → List ℕ
-coordinatesIn file l k start end = partOf file (shown (l .order) file (columnAt l k) (columnPlace file l start end k) end)
+coordinatesIn file l k start end = partOf file (fieldIn file l k start end)
 
 -- THE RECTANGLE of the coordinates in column k of row i: 13 for the row, 13 for the column, "A column of another type than C, Z, B, Y is
 -- 13", the row's own refusal, then the bounds with their 12

@@ -1,6 +1,6 @@
 // A refusal: one number and one place. Number 0 says that nothing is refused; no answer carries it to a caller as a refusal.
 ghost use mathlib.Core.Path.{_≡_};
-ghost use Rattle.refusal.specs.Order.{refusal, fine, first, located};
+ghost use Rattle.refusal.specs.Order.{refusal, fine, located};
 
 // The numbers of document 01's table, each with its words.
 
@@ -122,11 +122,4 @@ pub fn refuse_at(number: u32, lowest: usize) -> Refusal
         return no_refusal();
     }
     refuse(number, lowest)
-}
-
-// The first of two that refuses.
-pub fn first_of_two(a: Refusal, b: Refusal) -> Refusal
-    ensures { λ r. ⌜ r ≡ first a b ⌝ }
-{
-    if a.number == 0 { b } else { a }
 }

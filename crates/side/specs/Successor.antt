@@ -49,10 +49,6 @@ abbrev pub sideOf : Successor → ℕ
 sideOf (Side u) = u
 sideOf (Wrong n) = 0
 
-abbrev pub wrongOf : Successor → ℕ
-wrongOf (Side u) = 0
-wrongOf (Wrong n) = n
-
 -- the successor as a function on sides, 0 where there is none
 abbrev pub after : Edges → ℕ → ℕ
 after t s = sideOf (successor t s)

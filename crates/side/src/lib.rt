@@ -6,7 +6,7 @@ use refusal::NOT_TOUCHING;
 ghost use mathlib.Core.Path.{_≡_};
 ghost use Prim.Native.Nat.{_<_};
 ghost use Rattle.laws.specs.Orbit.{entry};
-ghost use Rattle.side.specs.Edges.{edges};
+ghost use Rattle.side.specs.Edges.{edges, outside};
 ghost use Rattle.side.specs.Successor.{leaving, leavingEdge, successor};
 
 // The next side on a walk, or document 01's number for what is wrong at the side.
@@ -23,6 +23,16 @@ pub fn row(column: &[u32], e: usize) -> u32
         return 0;
     }
     if e <= column.len() { column[e - 1] } else { 0 }
+}
+
+// Whether x is none of 1..most.
+pub fn is_outside(most: usize, x: usize) -> bool
+    ensures { λ r. ⌜ r ≡ outside most x ⌝ }
+{
+    if x == 0 {
+        return true;
+    }
+    most < x
 }
 
 // Of the edge k, with these nodes and faces, the side that leaves from the node with the face.

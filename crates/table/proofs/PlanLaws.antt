@@ -4,27 +4,29 @@ use mathlib.Core.Path.{_≡_, refl, sym, ap, _∙_}
 use mathlib.Core.Logic.{by-cases}
 use mathlib.Core.Bool.{Bool, false}
 use mathlib.Core.List.{List}
-use Prim.Native.Nat.{ℕ, zero, suc, pred, min, _+_, _-_, _*_, _≤_, _<_}
+use Prim.Native.Nat.{ℕ, zero, suc, pred, min, _+_, _-_, _≤_, _<_}
 use native.Mathlib.Omega.{arith}
 use native.Mathlib.Numerals.{add-one}
 use native.Mathlib.Decide.{ℕ-discrete}
 use lib.Dec.{eqb}
 use lib.ListN.{length, getD, set, replicate}
 use borrow.Author.Tests.{eq-eqb, ne-eqb}
-use Rattle.laws.proofs.LowestLaws.{bool-cases}
+use Rattle.laws.specs.Lowest.{None}
+use Rattle.laws.proofs.LowestLaws.{bool-cases, none-start}
 use Rattle.laws.proofs.BufferLaws.{front-low}
 use Rattle.refusal.specs.declared.Refusal.{Refusal}
-use Rattle.refusal.proofs.OrderLaws.{both}
+use Rattle.refusal.specs.Order.{fine, refuses, lowestOf}
+use Rattle.refusal.proofs.OrderLaws.{both, on-next, found, all-fine}
 use Rattle.number.specs.declared.Order.{Order}
 use Rattle.number.specs.Bytes.{number}
 use Rattle.header.specs.declared.Layout.{Layout}
 use Rattle.limits.specs.Limits.{mostColumns}
 use Rattle.table.specs.declared.Reach.{Reach}
 use Rattle.table.specs.declared.Reach.the-variants.{At, Short, Cut}
-use Rattle.opening.specs.Opening.{endAt}
+use Rattle.opening.specs.Opening.{entryEnd, endAt}
 use Rattle.table.specs.Rows.{columnsOf, columnAt, noSuch, noSuchColumn, boundOf, outside, fieldEnd, onward, reach}
 use Rattle.table.specs.Rows.{placeOf, offsetPlace, columnPlace, usedUp, idJudged, placeJudged, placeRefusal, fieldsRefusal, rowRefusal, rowJudged}
-use Rattle.table.specs.Plans.{fixedBound, walkedBound, boundBy, codeAt, planOf, codeEnd, planReach, keep, placesLeft, placesAfter}
+use Rattle.table.specs.Plans.{fixedBound, boundBy, codeAt, planOf, codeEnd, planReach, keep, placesLeft, placesAfter}
 use Rattle.table.specs.Serving.RowPlans.{idOffset, fixedRow, plannedFields, plannedRow, plannedPlaces, rowPlaces, placeBy}
 use Rattle.table.proofs.FieldLaws.{code-says}
 use Rattle.table.proofs.WalkLaws.{stays-so, passed-so, length-left, left-next, left-stays, left-at, passed}
@@ -166,25 +168,14 @@ module _ (s : List ℕ) (l : Layout) (start end : ℕ) where
 
 -- ---- where rows lie
 
--- a row's end by its entry
-pub walked-entry : (o : Order) (index : List ℕ) (first k a b : ℕ) → (k ≡ 0 → ⊥) → a ≡ number o index (8 * k) 4 → b ≡ number o index (8 * k + 4) 4
-    → a + b ≡ walkedBound o index first k
-walked-entry o index first zero a b h e f = absurd (h refl)
-walked-entry o index first (suc k) a b h e f = rw (e, f)
-
 module _ (index : List ℕ) (l : Layout) where
   bound-fixed : (l .width ≡ 0 → ⊥) → (k : ℕ) → boundOf l index k ≡ fixedBound (l .start) (l .width) k
   unfolding boundOf
   bound-fixed z k = rw (ne-eqb (l .width) 0 z)
 
-  end-walked : (k : ℕ) → walkedBound (l .order) index (l .start) k ≡ endAt l index k
-  unfolding endAt
-  end-walked zero = refl
-  end-walked (suc k) = refl
-
-  bound-walked : l .width ≡ 0 → (k : ℕ) → boundOf l index k ≡ walkedBound (l .order) index (l .start) k
-  unfolding boundOf
-  bound-walked z k = rw (eq-eqb (l .width) 0 z) (sym (end-walked k))
+  bound-walked : l .width ≡ 0 → (k : ℕ) → boundOf l index k ≡ entryEnd (l .order) index (l .start) k
+  unfolding boundOf endAt
+  bound-walked z k = rw (eq-eqb (l .width) 0 z)
 
   -- row 1 starts where the header says
   pub bound-first : l .start ≡ boundOf l index 0
@@ -193,26 +184,49 @@ module _ (index : List ℕ) (l : Layout) where
 
   -- THE BOUND by plain numbers
   pub bound-by : (k : ℕ) → boundBy (l .order) index (l .start) (l .width) k ≡ boundOf l index k
-  unfolding boundBy boundOf
-  bound-by k = bool-cases (eqb (l .width) 0) (λ t. rw t (end-walked k)) (λ t. rw t)
+  unfolding boundBy boundOf endAt
+  bound-by k = bool-cases (eqb (l .width) 0) (λ t. rw t) (λ t. rw t)
 
--- ---- all rows: row i + 1 as the two loops judge it, from where the last ended
-module _ (s index : List ℕ) (l : Layout) (i start end : ℕ) (q : Refusal) (from : start ≡ boundOf l index i) where
-  row-next : end ≡ boundOf l index (i + 1) → q ≡ rowRefusal s l start end (i + 1) → q ≡ rowJudged s index l (i + 1)
-  row-next to e =
-      let p : pred (i + 1) ≡ i = omega arith in
-      e ∙ rw (from, to, p)
+-- ---- all rows, as the two loops judge them
+module _ (s index : List ℕ) (l : Layout) where
+  -- those up to row i are fine, and the last of them ends here
+  pub record FineTo (i start : ℕ) : Type 0 where
+    pub ends : start ≡ boundOf l index i
+    pub fine : None (refuses (rowJudged s index l)) i
 
-  pub fixed-next : (l .width ≡ 0 → ⊥) → (missing : Bool) (offset : ℕ) → missing ≡ noSuchColumn l (l .id) → offset ≡ idOffset l
-      → end ≡ fixedBound (l .start) (l .width) (i + 1) → q ≡ fixedRow (l .order) s missing offset start end (i + 1)
-      → (end ≡ boundOf l index (i + 1)) × (q ≡ rowJudged s index l (i + 1))
-  fixed-next z missing offset a b c d =
-      let to = c ∙ sym (bound-fixed index l z (i + 1)) in
-      (to, row-next to (d ∙ rw (a, b) (fixed-row s l start end (i + 1) z)))
+  -- row i + 1 ends and is judged as the layout says
+  pub record NextRow (i end : ℕ) (q : Refusal) : Type 0 where
+    pub ends : end ≡ boundOf l index (i + 1)
+    pub judged : q ≡ rowJudged s index l (i + 1)
 
-  pub walked-next : l .width ≡ 0 → (columns : ℕ) (plan : List ℕ) → columns ≡ columnsOf l → plan ≡ planOf l
-      → end ≡ walkedBound (l .order) index (l .start) (i + 1) → q ≡ plannedRow (l .order) s plan columns (l .id) start end (i + 1)
-      → (end ≡ boundOf l index (i + 1)) × (q ≡ rowJudged s index l (i + 1))
-  walked-next z columns plan a b c d =
-      let to = c ∙ sym (bound-walked index l z (i + 1)) in
-      (to, row-next to (d ∙ rw (a, b) (planned-row s l start end (i + 1) z)))
+  pub fine-first : FineTo 0 (l .start)
+  fine-first = record { ends = bound-first index l; fine = none-start (refuses (rowJudged s index l)) }
+
+  module _ (i start end : ℕ) (q : Refusal) (from : FineTo i start) where
+    next-row : end ≡ boundOf l index (i + 1) → q ≡ rowRefusal s l start end (i + 1) → NextRow i end q
+    next-row to e =
+        let p : pred (i + 1) ≡ i = omega arith in
+        record { ends = to; judged = e ∙ rw (from .ends, to, p) }
+
+    pub fixed-next : (l .width ≡ 0 → ⊥) → (missing : Bool) (offset : ℕ) → missing ≡ noSuchColumn l (l .id) → offset ≡ idOffset l
+        → end ≡ fixedBound (l .start) (l .width) (i + 1) → q ≡ fixedRow (l .order) s missing offset start end (i + 1) → NextRow i end q
+    fixed-next z missing offset a b c d =
+        next-row (c ∙ sym (bound-fixed index l z (i + 1))) (d ∙ rw (a, b) (fixed-row s l start end (i + 1) z))
+
+    pub walked-next : l .width ≡ 0 → (columns : ℕ) (plan : List ℕ) → columns ≡ columnsOf l → plan ≡ planOf l
+        → end ≡ entryEnd (l .order) index (l .start) (i + 1) → q ≡ plannedRow (l .order) s plan columns (l .id) start end (i + 1)
+        → NextRow i end q
+    walked-next z columns plan a b c d =
+        next-row (c ∙ sym (bound-walked index l z (i + 1))) (d ∙ rw (a, b) (planned-row s l start end (i + 1) z))
+
+    -- it is fine too, or it is the lowest that is refused
+    module _ (w : NextRow i end q) where
+      pub fine-next : q .number ≡ 0 → FineTo (i + 1) end
+      fine-next z = record { ends = w .ends; fine = on-next (rowJudged s index l) i q (from .fine) (w .judged) z }
+
+      pub lowest-refused : (n : ℕ) → i < n → (q .number ≡ 0 → ⊥) → q ≡ lowestOf (rowJudged s index l) n
+      lowest-refused n a z = found (rowJudged s index l) n i q a (from .fine) (w .judged) z
+
+  -- all are fine
+  pub none-refused : (n i start : ℕ) → FineTo i start → n ≤ i → i ≤ n → fine ≡ lowestOf (rowJudged s index l) n
+  none-refused n i start w a b = all-fine (rowJudged s index l) n i a b (w .fine)

@@ -32,10 +32,11 @@ use Rattle.table.specs.declared.Reach.the-variants.{At, Short, Cut}
 use Rattle.table.specs.declared.Row.the-variants.{Between}
 use Rattle.limits.specs.Limits.{mostRows}
 use Rattle.opening.specs.Opening.{needsIndex}
-use Rattle.table.specs.Rows.{columnsOf, noSuch, noSuchRow, columnAt, boundOf, outside, reach, placeOf, placeOfColumn}
+use Rattle.table.specs.Rows.{columnsOf, noSuch, noSuchRow, columnAt, outside, reach, placeOf, placeOfColumn}
 use Rattle.table.specs.Rows.{idAt, idRefusal, usedUp, offsetPlace, columnPlace, fieldsRefusal, rowRefusal, rowOf}
 use Rattle.opening.specs.Words.{layoutOf, Opens}
 use Rattle.table.specs.Words.{RowRight}
+use Rattle.table.specs.Serving.OpenedRows.{OpenedRow, openedRow}
 use Rattle.opening.proofs.RowWidth.{OneWidth, one-width-exactly, in-reading}
 use Rattle.table.proofs.RowsPartition.{row-inside, row-width}
 use Rattle.table.proofs.FieldExactly.{next-field, walk-fields, fields-end, place-found}
@@ -89,11 +90,7 @@ module _ (file index : List ℕ) (most : ℕ) (h : Reading) (n : ℕ) (o : Opens
   width-sum w = means .width (λ k i. one-width-exactly file h (o .header) .0 w k (in-reading file h (o .header) k i))
 
   module _ (i : ℕ) (r : In n i) where
-    abbrev start : ℕ
-    start = boundOf l index (pred i)
-
-    abbrev end : ℕ
-    end = boundOf l index i
+    open OpenedRow (openedRow file index n i) using (start, end)
 
     pub forward : start ≤ end
     forward = row-inside file index most h n o i r .1

@@ -31,14 +31,14 @@ use Rattle.triplet.specs.Words.{BadAt}
 use Rattle.triplet.proofs.ReadExactly.{refused-exactly}
 use Rattle.header.specs.declared.ColumnLayout.{ColumnLayout}
 use Rattle.header.specs.declared.Layout.{Layout}
-use Rattle.opening.specs.declared.Table.{Table}
 use Rattle.table.specs.declared.Reach.{Reach}
 use Rattle.table.specs.declared.Reach.the-variants.{At, Short, Cut}
 use Rattle.table.specs.declared.Row.the-variants.{Refused}
-use Rattle.table.specs.Rows.{columnAt, boundOf, plainEnd, starEnd, pastTriplet, tripletEnd, fieldEnd, onward, reach, placeOf}
+use Rattle.table.specs.Rows.{columnAt, plainEnd, starEnd, pastTriplet, tripletEnd, fieldEnd, onward, reach, placeOf}
 use Rattle.table.specs.Rows.{placeOfColumn, idAt, idRefusal, usedUp, rowRefusal, rowOf}
-use Rattle.opening.specs.Words.{layoutOf, Opens}
-use Rattle.table.specs.Words.{FieldEnds, Begun, FieldMissing, TripletBad, NotUsedUp, IdWrong, RowRefused}
+use Rattle.opening.specs.Words.{Opens}
+use Rattle.table.specs.Words.{FieldEnds, Begun, LedTo, FieldMissing, TripletBad, NotUsedUp, IdWrong, RowRefused}
+use Rattle.table.specs.Serving.OpenedRows.{OpenedRow, openedRow}
 use Rattle.table.proofs.WalkLaws.{stays, reach-within}
 use Rattle.table.proofs.FieldExactly.{triplet-kind, field-exactly, walk-begun, begun-walk, walk-fields, fields-end, place-found}
 use Rattle.table.proofs.RowExactly.{means, forward, inside-file, row-by-walk, row-there}
@@ -139,14 +139,7 @@ parts-refusal a b n p u v = (λ i. refusal (sym u i) (sym v i))
 
 -- ---- the rows of an opened table
 module _ (file index : List ℕ) (most : ℕ) (h : Reading) (rows : ℕ) (o : Opens file index most h rows) (i : ℕ) (r : In rows i) where
-  abbrev l : Layout
-  l = layoutOf file
-
-  abbrev start : ℕ
-  start = boundOf l index (pred i)
-
-  abbrev end : ℕ
-  end = boundOf l index i
+  open OpenedRow (openedRow file index rows i) using (layout as l, table as opened, start, end)
 
   abbrev ahead : start ≤ end
   ahead = forward file index most h rows o i r
@@ -163,6 +156,16 @@ module _ (file index : List ℕ) (most : ℕ) (h : Reading) (rows : ℕ) (o : Op
   -- the walk came to a column
   came-within : (k p : ℕ) → reach file l start end k ≡ At p → p ≤ end
   came-within k p e = reach-within file l start end k p ahead inside e
+
+  -- the column at which it stopped
+  abbrev led-to : (x : Reach) → StopsAt file l start end (l .columns) x → LedTo file l start end
+  led-to x k =
+      record {
+        place = place;
+        column = k .column;
+        within = k .within;
+        begun = walk-begun file l start end ahead inside (pred (k .column)) (place (k .column)) (k .before);
+      }
 
   module _ (n p : ℕ) where
     id-said : idJudged ≡ refusal n p → (n ≡ 0 → ⊥) → (n ≡ 9) × (p ≡ i) × (number (l .order) file (place (l .id)) 4 ≡ i → ⊥)
@@ -193,29 +196,13 @@ module _ (file index : List ℕ) (most : ℕ) (h : Reading) (rows : ℕ) (o : Op
         let k = stops-at file l start end (l .columns) Short (λ p v. clash (cc)) u in
         let f = short-exactly (l .order) file end (columnAt l (k .column)) (place (k .column))
         (came-within (pred (k .column)) (place (k .column)) (k .before)) .0 (k .stops) in
-        inl (record {
-          number-10 = w .0;
-          at-row = w .1;
-          place = place;
-          column = k .column;
-          within = k .within;
-          begun = walk-begun file l start end ahead inside (pred (k .column)) (place (k .column)) (k .before);
-          kind = f .0;
-          no-end = f .1;
-        })
+        inl (record { number-10 = w .0; at-row = w .1; at = led-to Short k; kind = f .0; no-end = f .1 })
     said (Cut q) u e z =
         let w = refusal-parts 11 q n p e in
         let k = stops-at file l start end (l .columns) (Cut q) (λ p v. clash (cc)) u in
         let f = cut-exactly (l .order) file end (columnAt l (k .column)) (place (k .column)) q .0 (k .stops) in
-        inr (inl (record {
-          number-11 = w .0;
-          place = place;
-          column = k .column;
-          within = k .within;
-          begun = walk-begun file l start end ahead inside (pred (k .column)) (place (k .column)) (k .before);
-          kind = f .0;
-          bad = subst (BadAt (l .order) (take (end - place (k .column)) (drop (place (k .column)) file))) (sym (w .1)) (f .1);
-        }))
+        let g = subst (BadAt (l .order) (take (end - place (k .column)) (drop (place (k .column)) file))) (sym (w .1)) (f .1) in
+        inr (inl (record { number-11 = w .0; at = led-to (Cut q) k; kind = f .0; bad = g }))
 
     -- the walk to a column of which the words speak
     came-to : (at : ℕ → ℕ) (k : ℕ) → 0 < k → Begun file l start end at (pred k) → reach file l start end (pred k) ≡ At (at k)
@@ -225,22 +212,28 @@ module _ (file index : List ℕ) (most : ℕ) (h : Reading) (rows : ℕ) (o : Op
     judged : (x : Reach) → reach file l start end (l .columns) ≡ x → rowRefusal file l start end i ≡ usedUp x end i idJudged
     judged x e = row-by-walk file index most h rows o i r file inside ∙ ap (λ (y : Reach). usedUp y end i idJudged) e
 
+    led-there : (w : LedTo file l start end) → reach file l start end (pred (w .column)) ≡ At (w .place (w .column))
+    led-there w = came-to (w .place) (w .column) (w .within .0) (w .begun)
+
+    -- the row is judged by what stops the walk there
+    stopped : (x : Reach) → ((f : ℕ → Reach) → onward x f ≡ x) → (w : LedTo file l start end)
+        → fieldEnd (l .order) file end (columnAt l (w .column)) (w .place (w .column)) ≡ x
+        → rowRefusal file l start end i ≡ usedUp x end i idJudged
+    stopped x g w f = judged x (stops-through file l start end x g (w .column) (l .columns) (w .place (w .column)) (w .within) (led-there w) f)
+
     missing : FieldMissing file l start end i n p → (rowRefusal file l start end i ≡ refusal n p) × (n ≡ 0 → ⊥)
     missing w =
-        let e = came-to (w .place) (w .column) (w .within .0) (w .begun) in
-        let f = short-exactly (l .order) file end (columnAt l (w .column)) (w .place (w .column))
-        (came-within (pred (w .column)) (w .place (w .column)) e) .1 (w .kind, w .no-end) in (
-          judged Short (stops-through file l start end Short (λ f. refl) (w .column) (l .columns) (w .place (w .column)) (w .within) e f)
-              ∙ parts-refusal 10 i n p (w .number-10) (w .at-row),
+        let k = w .at .column in let q = w .at .place k in
+        let f = short-exactly (l .order) file end (columnAt l k) q (came-within (pred k) q (led-there (w .at))) .1 (w .kind, w .no-end) in (
+          stopped Short (λ f. refl) (w .at) f ∙ parts-refusal 10 i n p (w .number-10) (w .at-row),
           λ z. omega (arith, w .number-10),
         )
 
     bad : TripletBad file l start end n p → (rowRefusal file l start end i ≡ refusal n p) × (n ≡ 0 → ⊥)
     bad w =
-        let e = came-to (w .place) (w .column) (w .within .0) (w .begun) in
-        let f = cut-exactly (l .order) file end (columnAt l (w .column)) (w .place (w .column)) p .1 (w .kind, w .bad) in (
-          judged (Cut p) (stops-through file l start end (Cut p) (λ f. refl) (w .column) (l .columns) (w .place (w .column)) (w .within) e f)
-              ∙ parts-refusal 11 p n p (w .number-11) refl,
+        let k = w .at .column in
+        let f = cut-exactly (l .order) file end (columnAt l k) (w .at .place k) p .1 (w .kind, w .bad) in (
+          stopped (Cut p) (λ f. refl) (w .at) f ∙ parts-refusal 11 p n p (w .number-11) refl,
           λ z. omega (arith, w .number-11),
         )
 
@@ -270,9 +263,6 @@ module _ (file index : List ℕ) (most : ℕ) (h : Reading) (rows : ℕ) (o : Op
     )
 
     -- THE ROW is answered with the refusal exactly then
-    abbrev opened : Table
-    opened = record { layout = l; rows = rows }
-
     pub row-of-refused-exactly : (rowOf file index opened i ≡ Refused (refusal n p)) ↔ RowRefused file l start end i n p
     unfolding rowOf
     row-of-refused-exactly =

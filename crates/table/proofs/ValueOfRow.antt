@@ -35,18 +35,18 @@ use Rattle.triplet.specs.Triplet.{tripletOf}
 use Rattle.header.specs.declared.ColumnLayout.{ColumnLayout}
 use Rattle.header.specs.declared.Layout.{Layout}
 use Rattle.header.specs.LayoutWords.{layoutAt}
-use Rattle.opening.specs.declared.Table.{Table}
 use Rattle.table.specs.declared.Reach.{Reach}
 use Rattle.table.specs.declared.Reach.the-variants.{At, Short, Cut}
 use Rattle.table.specs.declared.Value.{Value}
 use Rattle.table.specs.declared.Value.the-variants as val
-use Rattle.table.specs.Rows.{columnAt, boundOf, starEnd, tripletEnd, fieldEnd, onward, reach, placeOf, placeOfColumn, idRefusal, usedUp, columnPlace, rowRefusal}
+use Rattle.table.specs.Rows.{columnAt, starEnd, tripletEnd, fieldEnd, onward, reach, placeOf, placeOfColumn, idRefusal, usedUp, columnPlace, rowRefusal}
 use Rattle.table.specs.Values.{shortOf, integerOf, floatOf, doubleOf, elementsStart, elementsBytes, tripletOfRead, byType, shown, valueOf}
-use Rattle.opening.specs.Words.{layoutOf, Opens}
+use Rattle.opening.specs.Words.{Opens}
 use Rattle.table.specs.Words.{FieldEnds, Fields, RowRight, SameRow, PartInside}
 use Rattle.table.proofs.WalkLaws.{came, passed, reach-within}
 use Rattle.table.proofs.FieldExactly.{next-field, field-at, fields-end, place-found}
 use Rattle.table.proofs.ColumnBytes.{OneElement, column-one-element, id-kind, ends-after, element-room, star-room, fixed-room}
+use Rattle.table.specs.Serving.OpenedRows.{OpenedRow, openedRow}
 use Rattle.table.proofs.RowExactly.{there, means, columns-all, forward, inside-file, place-by-walk, row-by-walk, row-there, row-of-exactly}
 
 -- the walk does not go back
@@ -173,17 +173,7 @@ module _ (start end : ℕ) where
 
 -- ---- the rows of an opened table
 module _ (file index : List ℕ) (most : ℕ) (h : Reading) (n : ℕ) (o : Opens file index most h n) (i : ℕ) (r : In n i) where
-  abbrev l : Layout
-  l = layoutOf file
-
-  abbrev start : ℕ
-  start = boundOf l index (pred i)
-
-  abbrev end : ℕ
-  end = boundOf l index i
-
-  abbrev opened : Table
-  opened = record { layout = l; rows = n }
+  open OpenedRow (openedRow file index n i) using (layout as l, table as opened, start, end)
 
   abbrev id-in : In (l .columns) (l .id)
   id-in = means file index most h n o .id-within

@@ -45,7 +45,7 @@ use Rattle.table.specs.declared.Value.{Value}
 use Rattle.table.specs.declared.Value.the-variants as val
 use Rattle.table.specs.Rows.{rowsOf, columnsOf, noSuch, noSuchRow, noSuchColumn, columnAt, boundOf, outside, reach, columnPlace}
 use Rattle.table.specs.Rows.{idAt, idRefusal, usedUp, fieldsRefusal, placeRefusal, rowRefusal, unlessRefused, rowOf}
-use Rattle.table.specs.Values.{tripletOfRead, byType, shown, inRow, valueOf}
+use Rattle.table.specs.Values.{tripletOfRead, byType, shown, inRow, fieldIn, valueOf}
 use Rattle.table.specs.Words.{FieldEnds, RowRight, RowThere, ColumnThere, NoRow, NoColumn, RowBad, NoTriplet, ValueRefused}
 use Rattle.table.proofs.RowLaws.{such}
 use Rattle.table.proofs.RowExactly.{there, row-of-exactly}
@@ -208,11 +208,8 @@ module _ (file index : List ℕ) (t : Table) (i k : ℕ) where
   abbrev column : ColumnLayout
   column = columnAt l k
 
-  abbrev field-of : ℕ → ℕ → Value
-  field-of start end = shown (l .order) file column (columnPlace file l start end k) end
-
   -- a row and a column that are there: what the row gives
-  pub value-in-row : RowThere t i → ColumnThere t k → valueOf file index t i k ≡ inRow (rowOf file index t i) field-of
+  pub value-in-row : RowThere t i → ColumnThere t k → valueOf file index t i k ≡ inRow (rowOf file index t i) (fieldIn file l k)
   unfolding valueOf
   value-in-row a b = rw (there (rowsOf t) i a, there (columnsOf l) k b)
 
@@ -234,7 +231,7 @@ module _ (file index : List ℕ) (t : Table) (i k : ℕ) where
     same-refusal : (a b : ℕ) → n ≡ a → p ≡ b → val.Refused (refusal a b) ≡ val.Refused q
     same-refusal a b u v = ap val.Refused (parts-refusal a b n p u v)
 
-    by-row : (x : Row) → rowOf file index t i ≡ x → RowThere t i → ColumnThere t k → inRow x field-of ≡ val.Refused q
+    by-row : (x : Row) → rowOf file index t i ≡ x → RowThere t i → ColumnThere t k → inRow x (fieldIn file l k) ≡ val.Refused q
         → RowBad file index t i k n p ⊎ NoTriplet file index t i k n p
     by-row (row.Refused r) u a b e = let w : r ≡ q = cc in inl (a, b, u ∙ ap row.Refused w)
     by-row (row.Between start end) u a b e =
@@ -276,11 +273,11 @@ module _ (file index : List ℕ) (t : Table) (i k : ℕ) where
           (⊎-elim
           (λ w. no-column (w .0) (w .1) ∙ same-refusal 13 k (w .2) (w .3))
           (⊎-elim
-          (λ w. value-in-row (w .0) (w .1) ∙ ap (λ (x : Row). inRow x field-of) (w .2))
+          (λ w. value-in-row (w .0) (w .1) ∙ ap (λ (x : Row). inRow x (fieldIn file l k)) (w .2))
           (λ w.
           let at = columnPlace file l (w .start) (w .end) k in
           value-in-row (accepted-there file index t i (w .start) (w .end) (w .accepted)) (w .column)
-          ∙ ap (λ (x : Row). inRow x field-of) (w .accepted)
+          ∙ ap (λ (x : Row). inRow x (fieldIn file l k)) (w .accepted)
           ∙ shown-refused (l .order) file column at (w .end) q .1
           (w .kind, refused-exactly (l .order) (take (w .end - at) (drop at file)) q .1 ((λ j. refusal (w .number-11 j) p), w .bad))))),
     )

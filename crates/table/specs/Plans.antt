@@ -7,11 +7,11 @@ use lib.Dec.{eqb, leb}
 use lib.ListN.{getD, set, replicate}
 use Rattle.laws.specs.Buffer.{front}
 use Rattle.number.specs.declared.Order.{Order}
-use Rattle.number.specs.Bytes.{number}
 use Rattle.field.specs.Fields.{widthOf, isTriplet}
 use Rattle.header.specs.declared.ColumnLayout.{ColumnLayout}
 use Rattle.header.specs.declared.Layout.{Layout}
 use Rattle.limits.specs.Limits.{mostColumns}
+use Rattle.opening.specs.Opening.{entryEnd}
 use Rattle.table.specs.declared.Reach.{Reach}
 use Rattle.table.specs.declared.Reach.the-variants.{At, Short, Cut}
 use Rattle.table.specs.Rows.{columnsOf, columnAt, outside, plainEnd, starEnd, tripletEnd, onward}
@@ -22,14 +22,9 @@ use Rattle.table.specs.Rows.{columnsOf, columnAt, outside, plainEnd, sta
 abbrev pub fixedBound : ℕ → ℕ → ℕ → ℕ
 fixedBound first width k = first + width * k
 
--- "n pairs of offset and length, all four bytes": where row k ends by its entry, and row k + 1 starts
-abbrev pub walkedBound : Order → List ℕ → ℕ → ℕ → ℕ
-walkedBound o index first zero = first
-walkedBound o index first (suc k) = number o index (8 * suc k) 4 + number o index (8 * suc k + 4) 4
-
 -- THE BOUND of rows of one width, or of rows with an index, by plain numbers
 unfoldable pub boundBy : Order → List ℕ → ℕ → ℕ → ℕ → ℕ
-boundBy o index first width k = cond (eqb width 0) (walkedBound o index first k) (fixedBound first width k)
+boundBy o index first width k = cond (eqb width 0) (entryEnd o index first k) (fixedBound first width k)
 
 -- ---- the plan of a row
 

@@ -13,6 +13,7 @@ use Rattle.field.specs.Nulls.{shortHalf, integerHalf, signed, shortIsNull, inte
 use Rattle.triplet.specs.declared.Triplet as read
 use Rattle.triplet.specs.Triplet.{tripletOf}
 use Rattle.header.specs.declared.ColumnLayout.{ColumnLayout}
+use Rattle.header.specs.declared.Layout.{Layout}
 use Rattle.opening.specs.declared.Table.{Table}
 use Rattle.table.specs.declared.Row as row
 use Rattle.table.specs.declared.Extent.{Extent}
@@ -72,13 +73,16 @@ abbrev pub inRow : row.Row → (ℕ → ℕ → Value) → Value
 inRow (row.the-variants.Between start end) f = f start end
 inRow (row.the-variants.Refused q) f = Refused q
 
+-- the value of column k in a row from start to end
+abbrev pub fieldIn : List ℕ → Layout → ℕ → ℕ → ℕ → Value
+fieldIn file l k start end = shown (l .order) file (columnAt l k) (columnPlace file l start end k) end
+
 -- THE VALUE of column k in row i: 13 for the row, 13 for the column, the row's own refusals, then the value
 unfoldable pub valueOf : List ℕ → List ℕ → Table → ℕ → ℕ → Value
 valueOf file index t i k =
     cond (noSuchRow t i) (Refused (refusal 13 i))
     (cond (noSuchColumn (t .layout) k) (Refused (refusal 13 k))
-    (inRow (rowOf file index t i)
-    (λ start end. shown (t .layout .order) file (columnAt (t .layout) k) (columnPlace file (t .layout) start end k) end)))
+    (inRow (rowOf file index t i) (fieldIn file (t .layout) k)))
 
 -- where the part of the file starts that a value shows, and how many bytes it has; none of a value that shows none
 abbrev pub noExtent : Extent

@@ -88,26 +88,27 @@ pub record Begun (s : List ℕ) (l : Layout) (start end : ℕ) (place : ℕ → 
   pub first : place 1 ≡ start
   pub next : Each m (λ k. FieldEnds (l .order) s end (layoutAt l k) (place k) (place (suc k)))
 
+-- a column to which the fields before it lead
+pub record LedTo (s : List ℕ) (l : Layout) (start end : ℕ) : Type 0 where
+  pub place : ℕ → ℕ
+  pub column : ℕ
+  pub within : In (l .columns) column
+  pub begun : Begun s l start end place (pred column)
+
 -- "10: row too short": the field of a column ends nowhere in the row
 pub record FieldMissing (s : List ℕ) (l : Layout) (start end i n p : ℕ) : Type 0 where
   pub number-10 : n ≡ 10
   pub at-row : p ≡ i
-  pub place : ℕ → ℕ
-  pub column : ℕ
-  pub within : In (l .columns) column
-  pub begun : Begun s l start end place (pred column)
-  pub kind : layoutAt l column .kind ≡ Triplet → ⊥
-  pub no-end : (q : ℕ) → FieldEnds (l .order) s end (layoutAt l column) (place column) q → ⊥
+  pub at : LedTo s l start end
+  pub kind : layoutAt l (at .column) .kind ≡ Triplet → ⊥
+  pub no-end : (q : ℕ) → FieldEnds (l .order) s end (layoutAt l (at .column)) (at .place (at .column)) q → ⊥
 
 -- "11: type byte or part bad, or cut short": the row goes on with no triplet, and is bad at p, "counted from the type byte as 0"
 pub record TripletBad (s : List ℕ) (l : Layout) (start end n p : ℕ) : Type 0 where
   pub number-11 : n ≡ 11
-  pub place : ℕ → ℕ
-  pub column : ℕ
-  pub within : In (l .columns) column
-  pub begun : Begun s l start end place (pred column)
-  pub kind : layoutAt l column .kind ≡ Triplet
-  pub bad : BadAt (l .order) (take (end - place column) (drop (place column) s)) p
+  pub at : LedTo s l start end
+  pub kind : layoutAt l (at .column) .kind ≡ Triplet
+  pub bad : BadAt (l .order) (take (end - at .place (at .column)) (drop (at .place (at .column)) s)) p
 
 -- "10: .. or not used up"
 pub record NotUsedUp (s : List ℕ) (l : Layout) (start end i n p : ℕ) : Type 0 where

@@ -9,11 +9,12 @@ ghost use Rattle.field.specs.Fields.{widest};
 ghost use Rattle.triplet.specs.Triplet.{tripletOf};
 ghost use Rattle.limits.specs.Limits.{mostColumns, mostRows};
 ghost use Rattle.field.specs.Nulls.{shortHalf, integerHalf, signed};
-ghost use Rattle.table.specs.Rows.{columnsOf, noSuch, noSuchColumn, outside, columnAt, boundOf, plainEnd, starEnd, tripletEnd};
-ghost use Rattle.table.specs.Rows.{idJudged, usedUp, columnPlace, rowRefusal, unlessRefused, rowOf};
-ghost use Rattle.table.specs.Plans.{fixedBound, walkedBound};
+ghost use Rattle.table.specs.Rows.{columnsOf, noSuch, noSuchColumn, outside, boundOf, plainEnd, starEnd, tripletEnd};
+ghost use Rattle.table.specs.Rows.{idJudged, usedUp, rowRefusal, unlessRefused, rowOf};
+ghost use Rattle.table.specs.Plans.{fixedBound};
 ghost use Rattle.table.specs.Serving.RowPlans.{placeBy};
-ghost use Rattle.table.specs.Values.{shortOf, integerOf, floatOf, doubleOf, elementsStart, elementsBytes, tripletOfRead, shown, inRow, valueOf, extentOf, partOf};
+ghost use Rattle.table.specs.Values.{shortOf, integerOf, floatOf, doubleOf, elementsStart, elementsBytes, tripletOfRead, shown, inRow, fieldIn, valueOf};
+ghost use Rattle.table.specs.Values.{extentOf, partOf};
 use field::FieldType;
 use header::ColumnLayout;
 use header::Layout;
@@ -135,7 +136,7 @@ fn triplet_end(file: &[u8], at: usize, end: usize, order: Order) -> Reach
 fn count_columns(layout: Layout) -> usize
     ensures { λ r. ⌜ r ≡ columnsOf layout ⌝ }
 {
-    lesser(layout.columns, MOST_COLUMNS)
+    limits::columns_within(layout.columns)
 }
 
 // Whether a layout has no column of this number.
@@ -198,18 +199,6 @@ pub fn place_within(start: usize, end: usize, offset: usize) -> usize
 }
 
 // ---- where rows lie
-
-// The end of row k by its entry, which stands at 8k; of row 0, where row 1 starts.
-fn entry_bound(index: &[u8], order: Order, first: u32, k: usize) -> usize
-    requires { ⌜ k < 4294967296 ⌝ }
-    ensures { λ r. ⌜ r ≡ walkedBound order (now (index .entry)) first k ⌝ }
-{
-    if k == 0 {
-        return first as usize;
-    }
-    let at = 8 * k;
-    number::read4(index, at, order) as usize + number::read4(index, at + 4, order) as usize
-}
 
 // The end of row k where all rows have one width.
 fn fixed_bound(first: u32, width: u32, k: usize) -> usize
@@ -393,8 +382,7 @@ fn value_between(
     column: usize,
 ) -> Value
     requires { ⌜ noSuchColumn layout column ≡ false ⌝ }
-    ensures { λ r. ⌜ r ≡ inRow (unlessRefused (rowRefusal (now (file .entry)) layout start end row) start end)
-        (λ start end. shown (layout .order) (now (file .entry)) (columnAt layout column) (columnPlace (now (file .entry)) layout start end column) end) ⌝ }
+    ensures { λ r. ⌜ r ≡ inRow (unlessRefused (rowRefusal (now (file .entry)) layout start end row) start end) (fieldIn (now (file .entry)) layout column) ⌝ }
 {
     let mut places = [0usize; MOST_COLUMNS];
     let judged = rows::judge_row(file, layout, start, end, row, &mut places);

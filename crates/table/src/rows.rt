@@ -278,7 +278,7 @@ fn judge_walked(file: &[u8], index: &[u8], layout: Layout, n: usize) -> Refusal
     let mut start = layout.start as usize;
     let mut i: usize = 0;
     while i < n {
-        let end = crate::entry_bound(index, order, layout.start, i + 1);
+        let end = opening::entry_end(index, order, layout.start, i + 1);
         let judged = judge_walked_row(
             file,
             &plan,
@@ -319,7 +319,7 @@ pub fn bound_by(index: &[u8], order: Order, first: u32, width: u32, k: usize) ->
 {
     let row = crate::lesser(k, MOST_ROWS);
     if width == 0 {
-        return crate::entry_bound(index, order, first, row);
+        return opening::entry_end(index, order, first, row);
     }
     crate::fixed_bound(first, width, row)
 }

@@ -248,15 +248,12 @@ fn say_table(file: &[u8], index: &[u8], most: &[u8]) {
 }
 
 fn run_case(case: &[u8]) {
-    let first = casefile::after(case, 0);
-    let second = casefile::after(case, first);
-    let third = casefile::after(case, second);
-    say(casefile::field(case, 0));
+    say(casefile::part(case, 0));
     say(b": ");
     say_table(
-        casefile::field(case, first),
-        casefile::field(case, second),
-        casefile::field(case, third),
+        casefile::part(case, 1),
+        casefile::part(case, 2),
+        casefile::part(case, 3),
     );
 }
 

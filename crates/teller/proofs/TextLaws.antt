@@ -2,7 +2,7 @@
 use mathlib.Core.Path.{_≡_, refl, sym, ap, _∙_}
 use mathlib.Core.Bool.{Bool, true, false, cond, _||_}
 use mathlib.Core.List.{List, _++_, append-assoc}
-use Prim.Native.Nat.{ℕ, zero, suc, _+_, _-_, _*_, _≤_, _<_}
+use Prim.Native.Nat.{ℕ, zero, suc, _+_, _-_, _*_, _≤_}
 use native.Mathlib.Nat.{min-eq-left}
 use native.Mathlib.Numerals.{add-one}
 use native.Mathlib.Omega.{arith}
@@ -21,7 +21,7 @@ use Rattle.tile.specs.declared.Verdict.the-variants as verdict
 use Rattle.tile.specs.declared.Walked.{Walked}
 use Rattle.tile.specs.Check.{verdictOf}
 use Rattle.tile.specs.Walk.{walkOf, stepsOf, allSteps}
-use Rattle.tile.proofs.AcceptedExactly.{accepted}
+use Rattle.facts.proofs.AcceptedExactly.{accepted}
 use Rattle.load.specs.declared.Counts.{Counts}
 use Rattle.directory.specs.declared.AtFault.{AtFault}
 use Rattle.directory.specs.declared.AtFault.the-variants.{Is, Nothing}

@@ -1,13 +1,13 @@
 -- What each part of the tests leaves to the next, and the parts joined.
 use mathlib.Core.Path.{_≡_, refl, sym, ap, _∙_}
 use mathlib.Core.Logic.{_⊎_, inl, inr, ⊎-elim}
-use mathlib.Core.Bool.{Bool, true, false, not, _&&_, _||_, true≢false}
+use mathlib.Core.Bool.{Bool, true, false, not, _&&_, true≢false}
 use mathlib.Core.List.{List, _∷_, _++_}
 use Prim.Native.Nat.{ℕ, _≤_, _<_}
 use native.Mathlib.Omega.{arith}
 use lib.Dec.{eqb, ltb}
 use lib.ListN.{length}
-use borrow.Author.Tests.{eq-eqb, ne-eqb, eqb-true, le-ltb, lt-ltb, ltb-false}
+use borrow.Author.Tests.{eq-eqb, ne-eqb, eqb-true, le-ltb, lt-ltb}
 use Rattle.laws.specs.Lowest.{lowest}
 use Rattle.laws.specs.Orbit.{entry, firstDoubled}
 use Rattle.laws.specs.Buffer.{front}
@@ -23,33 +23,12 @@ use Rattle.side.specs.Successor.{successor, after}
 use Rattle.side.specs.declared.Successor.{Successor}
 use Rattle.side.specs.declared.Successor.the-variants.{Side, Wrong}
 use Rattle.side.proofs.SideLaws.{Sound, successor-sound}
-use Rattle.limits.specs.Limits.{mostRows}
-use Rattle.tile.specs.Columns.{Tile, E, F, R, N, sides, Regular, sideWith, startSide, emptyStart}
-use Rattle.tile.specs.Check.{slicesUnequal, tooManyRows, sizesWrong, refusedSide, edgeSideRefusal, tests, verdict, verdictOf, marksLeft, marksAfter}
+use Rattle.tile.specs.Columns.{Tile, F, N, sides, sideWith, startSide, emptyStart}
+use Rattle.tile.specs.Check.{sizesWrong, refusedSide, edgeSideRefusal, tests, verdict, verdictOf, marksLeft, marksAfter}
 use Rattle.tile.specs.Serving.Stages.{edgeTests, ringTests, ownerTests, startMissing, startOf, lacksStart, ownersPainted, ringsOf}
 use Rattle.tile.specs.Serving.Stages.{ownersOf, afterEdges, laterTests, marksJudged}
 use Rattle.tile.specs.declared.Verdict.the-variants.{Accepted, Refused}
-use Rattle.tile.proofs.TestsInWords.{sizes-exactly}
 use Rattle.tile.proofs.OwnerLaws.{all-painted}
-
-or-false : (a b : Bool) → (a || b) ≡ false → (a ≡ false) × (b ≡ false)
-or-false true b e = absurd (true≢false e)
-or-false false b e = (refl, e)
-
--- ---- right sizes: no table is too long
-pub rows-within : (t : Tile) → sizesWrong t ≡ false → (E t ≤ mostRows) × (R t ≤ mostRows)
-unfolding sizesWrong tooManyRows
-rows-within t e =
-    let a = or-false (tooManyRows t) (eqb (F t) 0 || eqb (R t) 0)
-    (or-false (slicesUnequal t) (tooManyRows t || (eqb (F t) 0 || eqb (R t) 0)) e .1) .0 in
-    let b = or-false (ltb mostRows (E t)) (ltb mostRows (F t) || (ltb mostRows (R t) || ltb mostRows (N t))) a in
-    let c = or-false (ltb mostRows (F t)) (ltb mostRows (R t) || ltb mostRows (N t)) (b .1) in
-    let d = or-false (ltb mostRows (R t)) (ltb mostRows (N t)) (c .1) in
-    (ltb-false mostRows (E t) (b .0), ltb-false mostRows (R t) (d .0))
-
--- and the columns of the edge table have one length
-pub regular : (t : Tile) → sizesWrong t ≡ false → Regular (t .edg)
-regular t e = let s = sizes-exactly t .0 e in (s .edge-rows, s .end-node, s .right-face, s .left-face, s .right-edge, s .left-edge)
 
 -- ---- the edges' tests passed: every side has a successor
 pub sides-fine : (t : Edges) (faces nodes : ℕ) → firstOf (edgeTests t faces nodes) .number ≡ 0

@@ -1,11 +1,5 @@
 pub mod JoinedTests
-pub mod TestsInWords
-pub mod InOrder
-pub mod AcceptedExactly
-pub mod RefusedExactly
-pub mod StartExactly
-pub mod WalkExactly
-pub mod DemandThree
+pub mod SizeLaws
 pub mod NoSecondAnswer
 pub mod RunsExactly
 pub mod RunLaws

@@ -20,13 +20,13 @@ use lib.ListN.{length, List·getD-eq-default}
 use Rattle.laws.specs.Lowest.{lowest, At, In, Each}
 use Rattle.laws.specs.Sums.{bit, sum}
 use Rattle.laws.specs.Orbit.{entry}
+use Rattle.laws.specs.Runs.{OneRunFrom}
 use Rattle.laws.proofs.TestLaws.{or-false, and-false, not-unequal, nonzero}
 use Rattle.laws.proofs.LowestLaws.{bool-cases, lowest-some, lowest-pos}
 use Rattle.laws.proofs.SumLaws.{sum-ext, sum-part, sum-ones, sum-none}
 use Rattle.refusal.proofs.JudgedLaws.{none-found}
 use Rattle.tile.specs.Check.{ringRows, rowsBroken, runBroken}
 use Rattle.tile.specs.Serving.Stages.{beginsElsewhere, runNotAtPointer}
-use Rattle.tile.specs.Facts.{OneRunFrom}
 
 -- a row that is not 0 is a row of the list
 entry-in : (l : List ℕ) (r : ℕ) → 0 < entry l r → In (length l) r

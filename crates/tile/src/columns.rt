@@ -13,29 +13,19 @@ ghost use Rattle.laws.specs.Lowest.{lowest};
 ghost use Rattle.laws.specs.Buffer.{front};
 ghost use Rattle.laws.specs.Marks.{zeros};
 ghost use Rattle.refusal.specs.Order.{firstOf};
-ghost use Rattle.side.specs.Edges.{edges, outside};
+ghost use Rattle.side.specs.Edges.{edges};
 ghost use Rattle.tile.specs.Columns.{Regular};
 ghost use Rattle.tile.specs.Serving.Stages.{edgeTests, tallied};
 ghost use Rattle.tile.specs.Check.{rowOutside, entryOutside, edgeAway, edgeSideRefusal};
-
-// Whether x is none of 1..most.
-pub(crate) fn is_outside(most: usize, x: usize) -> bool
-    ensures { λ r. ⌜ r ≡ outside most x ⌝ }
-{
-    if x == 0 {
-        return true;
-    }
-    most < x
-}
 
 // Whether one of two columns has a number outside 1..most in row e.
 fn row_outside(most: usize, a: &[u32], b: &[u32], e: usize) -> bool
     ensures { λ r. ⌜ r ≡ rowOutside most (now (a .entry)) (now (b .entry)) e ⌝ }
 {
-    if is_outside(most, side::row(a, e) as usize) {
+    if side::is_outside(most, side::row(a, e) as usize) {
         return true;
     }
-    is_outside(most, side::row(b, e) as usize)
+    side::is_outside(most, side::row(b, e) as usize)
 }
 
 // The lowest of the rows 1..n of two columns with a number outside 1..most, or 0.
@@ -58,7 +48,7 @@ pub(crate) fn bad_entry(most: usize, a: &[u32]) -> usize
 {
     let mut i: usize = 0;
     while i < a.len() {
-        if is_outside(most, a[i] as usize) {
+        if side::is_outside(most, a[i] as usize) {
             return i + 1;
         }
         i += 1;
@@ -70,7 +60,7 @@ pub(crate) fn bad_entry(most: usize, a: &[u32]) -> usize
 fn is_away(start_node: &[u32], end_node: &[u32], node: usize, e: usize) -> bool
     ensures { λ r. ⌜ r ≡ edgeAway (now («start_node» .entry)) (now («end_node» .entry)) node e ⌝ }
 {
-    if is_outside(start_node.len(), e) {
+    if side::is_outside(start_node.len(), e) {
         return true;
     }
     if side::row(start_node, e) as usize == node {

@@ -223,7 +223,7 @@ pub fn walk(
     }
     let edges = start_node.len();
     let rings = fac_id.len();
-    if columns::is_outside(rings, row) {
+    if side::is_outside(rings, row) {
         return Walked::Refused(refusal::refuse(NO_SUCH, row));
     }
     let face = side::row(fac_id, row);

@@ -25,7 +25,7 @@ pub(crate) fn side_with(
     ensures { λ r. ⌜ r ≡ sideWith edges (now («right_face» .entry)) (now («left_face» .entry)) face e ⌝ }
 {
     let k = e as usize;
-    if columns::is_outside(edges, k) {
+    if side::is_outside(edges, k) {
         return 0;
     }
     if side::row(right_face, k) == face {

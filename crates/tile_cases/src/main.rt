@@ -184,12 +184,9 @@ fn decode(bytes: &[u8], numbers: &mut [u32; 256]) {
 
 fn run_case(case: &[u8]) {
     let mut numbers = [0u32; MOST_NUMBERS];
-    say(casefile::field(case, 0));
+    say(casefile::part(case, 0));
     say(b": ");
-    decode(
-        casefile::field(case, casefile::after(case, 0)),
-        &mut numbers,
-    );
+    decode(casefile::part(case, 1), &mut numbers);
     run_tile(&numbers);
 }
 

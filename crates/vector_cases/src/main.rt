@@ -2,7 +2,6 @@
 // field of eight fields: the label, the six files edg, edx, fac, rng, cnd, cnx, and their sizes (eight bytes each).
 ghost use Prim.Native.Nat.{_<_};
 use directory::Sizes;
-use libc::STDOUT_FILENO;
 use number::Order;
 use teller::TEXT_SPACE;
 
@@ -13,32 +12,15 @@ fn size_of(sizes: &[u8], file: usize) -> usize
     number::read8(sizes, 8 * file, Order::Least) as usize
 }
 
-// Writes the text of the six files, each said to have a size.
-fn write_text(
-    sizes: Sizes,
-    edg: &[u8],
-    edx: &[u8],
-    fac: &[u8],
-    rng: &[u8],
-    cnd: &[u8],
-    cnx: &[u8],
-) {
-    let mut text = [0u8; TEXT_SPACE];
-    let n = teller::tell_tile(sizes, edg, edx, fac, rng, cnd, cnx, &mut text);
-    io::write_all(STDOUT_FILENO, &text[0..n]);
+// The text's first n bytes.
+fn say_front(text: &[u8; TEXT_SPACE], n: usize) {
+    casefile::say_part(text, 0, n);
 }
 
 fn run_case(case: &[u8]) {
-    let edg = casefile::after(case, 0);
-    let edx = casefile::after(case, edg);
-    let fac = casefile::after(case, edx);
-    let rng = casefile::after(case, fac);
-    let cnd = casefile::after(case, rng);
-    let cnx = casefile::after(case, cnd);
-    let last = casefile::after(case, cnx);
-    let said = casefile::field(case, last);
-    io::write_all(STDOUT_FILENO, casefile::field(case, 0));
-    io::write_all(STDOUT_FILENO, b"\n");
+    let said = casefile::part(case, 7);
+    casefile::say(casefile::part(case, 0));
+    casefile::say(b"\n");
     let sizes = Sizes {
         edg: size_of(said, 0),
         edx: size_of(said, 1),
@@ -47,15 +29,18 @@ fn run_case(case: &[u8]) {
         cnd: size_of(said, 4),
         cnx: size_of(said, 5),
     };
-    write_text(
+    let mut text = [0u8; TEXT_SPACE];
+    let n = teller::tell_tile(
         sizes,
-        casefile::field(case, edg),
-        casefile::field(case, edx),
-        casefile::field(case, fac),
-        casefile::field(case, rng),
-        casefile::field(case, cnd),
-        casefile::field(case, cnx),
+        casefile::part(case, 1),
+        casefile::part(case, 2),
+        casefile::part(case, 3),
+        casefile::part(case, 4),
+        casefile::part(case, 5),
+        casefile::part(case, 6),
+        &mut text,
     );
+    say_front(&text, n);
 }
 
 fn run(file: &[u8]) {

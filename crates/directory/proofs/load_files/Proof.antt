@@ -2,7 +2,7 @@
 use borrow.Author.Needs.{needs}
 use Rattle.load.specs.Columns.{Columns, columns}
 use Rattle.directory.specs.Files.{Directory, directory}
-use Rattle.directory.proofs.OutcomeLaws.{files-read, size-refused, load-accepted, load-refused}
+use Rattle.directory.proofs.OutcomeLaws.{files-read, size-refused, load-answered}
 use Rattle.directory.proofs.load_files.Statement.{statement}
 use Rattle.directory.proofs.load_files.Tie as tie
 
@@ -28,43 +28,26 @@ index-of c =
 
 returns : tie.Need-returns
 returns c =
-    let at-refuse = c .before in let at-file = at-refuse .before .before in
-    let at-too-large = at-file .before .before in let at-take-sizes = at-too-large .before in
-    let k = at-take-sizes .before in let s = start-of k in
+    let at-file = c .before .before in let at-too-large = at-file .before .before in
+    let at-take-sizes = at-too-large .before in let k = at-take-sizes .before in let s = start-of k in
     size-refused (s .args .sizes) (given s) _ (at-take-sizes .take-sizes .ensures) _ (k .shows-triplet .ensures) _
-    (at-too-large .too-large .ensures) _ (at-file .file .given .1) (lent s) _ _ (c .name .ensures) (at-refuse .refuse .ensures)
+    (at-too-large .too-large .ensures) _ (at-file .file .given .1) (lent s) _ (c .over-limit .ensures)
 
 returns-2 : tie.Need-returns-2
 returns-2 c =
-    let at-c = c .before in
-    let back13 = at-c .before .before .before .before .before .before .before .before .before .before .before .before in
-    let at-load = back13 .before .before .before .before .before .before .before .before .before .before in
+    let back12 = c .before .before .before .before .before .before .before .before .before .before .before .before in
+    let at-load = back12 .before .before .before .before .before .before .before .before .before in
     let i = index-of at-load in let small = i .before .before in let z = small .before .before in let k = z .before .before in
     let s = start-of k in
-    load-accepted (s .args .sizes) (given s) _ (z .before .take-sizes .ensures) _ (k .shows-triplet .ensures) _ (z .too-large .ensures)
+    load-answered (s .args .sizes) (given s) _ (z .before .take-sizes .ensures) _ (k .shows-triplet .ensures) _ (z .too-large .ensures)
     (small .enum-told .given .1) _ (files-read (given s) _ _ (k .shows-triplet .ensures) (i .lent-index .ensures)) (lent s) _ _
-    (at-load .load .ensures .0) (at-load .load .ensures .1) _ (at-c .c .given .1)
-
-returns-3 : tie.Need-returns-3
-returns-3 c =
-    let at-file-of-finding = c .before in let at-found = at-file-of-finding .before .before in
-    let back15 = at-found .before .before .before .before .before .before .before .before .before .before .before .before in
-    let at-load = back15 .before .before .before .before .before .before .before .before .before .before in
-    let i = index-of at-load in let small = i .before .before in let z = small .before .before in let k = z .before .before in
-    let s = start-of k in
-    load-refused (s .args .sizes) (given s) _ (z .before .take-sizes .ensures) _ (k .shows-triplet .ensures) _ (z .too-large .ensures)
-    (small .enum-told .given .1) _ (files-read (given s) _ _ (k .shows-triplet .ensures) (i .lent-index .ensures)) (lent s) _ _
-    (at-load .load .ensures .0) (at-load .load .ensures .1) _ (at-found .found .given .1) _ _
-    (at-file-of-finding .file-of-finding .ensures) (c .name2 .ensures)
+    (at-load .load .ensures .0) (at-load .load .ensures .1) _ (c .loaded-as .ensures)
 
 pub load-files-spec : {M : Type 1} → statement M
 load-files-spec =
     tie.close
     (tie.spec (λ c κs. search needs) (λ c κs. search needs) (λ c κs. search needs) (λ c. search needs)
-    (λ c κs. search needs) (λ c κs. search needs) returns (λ c. search needs) (λ c. search needs) (λ c. search needs)
-    (λ c. search needs) (λ c κs. search needs) (λ c κs. search needs) (λ c. search needs) (λ c. search needs)
-    (λ c κs. search needs) (λ c κs. search needs) (λ c. search needs) (λ c. search needs) (λ c. search needs)
+    (λ c κs. search needs) returns (λ c. search needs) (λ c. search needs) (λ c. search needs)
+    (λ c. search needs) (λ c κs. search needs) (λ c κs. search needs) (λ c κs. search needs) (λ c. search needs)
     (λ c. search needs) (λ c. search needs) (λ c. search needs) (λ c. search needs) (λ c. search needs)
-    (λ c. search needs) (λ c. search needs) returns-2 (λ c. search needs) (λ c. search needs) (λ c. search needs)
-    (λ c. search needs) (λ c. search needs) (λ c. search needs) (λ c. search needs) (λ c. search needs)
-    (λ c. search needs) (λ c. search needs) returns-3)
+    (λ c. search needs) (λ c. search needs) (λ c. search needs) (λ c. search needs) returns-2)

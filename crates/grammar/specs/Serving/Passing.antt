@@ -6,27 +6,11 @@ use Prim.Native.Nat.{ℕ, _+_, _≤_, _<_}
 use lib.ListN.{length, getD, drop}
 use lib.Dec.{ltb, eqb}
 use Rattle.laws.specs.Machine.{run}
-use Rattle.grammar.specs.Fields.{rule, allowed}
-use Rattle.grammar.specs.Scan.{spot, closes, ends, stars, columnsAfter, machine, answer}
-use Rattle.grammar.specs.declared.Field.{Field}
-use Rattle.grammar.specs.declared.Field.the-variants.{AfterStar, TextEnd}
-use Rattle.grammar.specs.declared.Special.{Special}
+use Rattle.grammar.specs.Fields.{allowed}
+use Rattle.grammar.specs.Scan.{machine, answer}
 use Rattle.grammar.specs.declared.Class.{Class}
 use Rattle.grammar.specs.declared.Spot.{Spot}
-use Rattle.grammar.specs.declared.Move.{Move}
-use Rattle.grammar.specs.declared.Move.the-variants.{To, Stop}
 use Rattle.grammar.specs.declared.Scan.{Scan}
-
--- where the closer of a field leads
-abbrev pub closed : Field → ℕ → Spot
-closed f cols = spot (rule f .next) 0 (columnsAfter (rule f .special) cols)
-
--- what a byte does that is not taken into the field, and one that does not close the field either
-abbrev pub specialMove : Special → ℕ → ℕ → ℕ → Move
-specialMove k n cols b = cond (ends k n cols b) (To (spot TextEnd 0 cols)) (cond (stars k n b) (To (spot AfterStar 0 cols)) Stop)
-
-abbrev pub pastMove : Field → ℕ → ℕ → ℕ → Move
-pastMove f n cols b = cond (closes f n b) (To (closed f cols)) (specialMove (rule f .special) n cols b)
 
 -- the scan of s, where it stands in the spot and the bytes from place i on are left
 unfoldable pub restOf : List ℕ → Spot → ℕ → Scan

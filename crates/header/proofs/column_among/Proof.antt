@@ -13,7 +13,7 @@ use Rattle.header.proofs.column_among.Tie as tie
 column-by-name-requires : tie.Need-column-by-name-requires
 column-by-name-requires c κs =
     let start = c .before .before .before .before .before .before .before in
-    let h : c .within-limit .result ≤ mostColumns = rw (c .within-limit .ensures) (min-le-right (start .args .columns) mostColumns) in
+    let h : c .columns-within .result ≤ mostColumns = rw (c .columns-within .ensures) (min-le-right (start .args .columns) mostColumns) in
     let a : length (start .args .names .starts) ≡ mostColumns = search needs in
     let b : length (start .args .names .ends) ≡ mostColumns = search needs in
     (omega (arith, h, a), omega (arith, h, b))
@@ -21,10 +21,10 @@ column-by-name-requires c κs =
 returns : tie.Need-returns
 unfolding columnAmong
 returns c =
-    let at-within-limit = c .before in
-    let start = at-within-limit .before .before .before .before .before .before .before in
+    let at-columns-within = c .before in
+    let start = at-columns-within .before .before .before .before .before .before .before in
     c .column-by-name .ensures ∙ ap (lowest (isAmong (start .args .file .now) (start .args .names)
-    (start .args .name .now))) (at-within-limit .within-limit .ensures)
+    (start .args .name .now))) (at-columns-within .columns-within .ensures)
 
 pub column-among-spec : {M : Type 1} → statement M
 column-among-spec =

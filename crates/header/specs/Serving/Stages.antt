@@ -14,7 +14,9 @@ use Rattle.number.specs.declared.Order.{Order}
 use Rattle.number.specs.declared.Order.the-variants.{Least}
 use Rattle.grammar.specs.declared.Scan.{Scan}
 use Rattle.field.specs.Fields.{typeOf, widest, isInteger, mostCount}
+use Rattle.header.specs.declared.Answer.the-variants.{Accepted}
 use Rattle.header.specs.declared.Definition.{Definition}
+use Rattle.header.specs.declared.Header.{Header}
 use Rattle.header.specs.declared.ColumnLayout.{ColumnLayout}
 use Rattle.header.specs.declared.Kept.{Kept}
 use Rattle.header.specs.declared.Judged.{Judged}
@@ -107,6 +109,15 @@ textTests s scan = grammarRefusal scan ∷ columnTests s (columnsOf scan)
 -- what an accepted header of the head s hands on
 abbrev pub acceptedOf : Order → ℕ → List ℕ → ℕ → Judged
 acceptedOf order start s n = record { refusal = fine; order = order; start = start; columns = n; id = idColumn s n; kept = keptOf s n }
+
+-- the header that it is told as
+abbrev pub handedOn : Judged → Header
+handedOn f =
+    record {
+      answer = Accepted;
+      layout = record { order = f .order; start = f .start; columns = f .columns; id = f .id; width = f .kept .width; cols = f .kept .cols };
+      names = f .kept .names;
+    }
 
 abbrev pub refusedWith : Refusal → Judged
 refusedWith q = record { refusal = q; order = Least; start = 0; columns = 0; id = 0; kept = noneKept 0 }

@@ -1,7 +1,9 @@
 use mathlib.Core.Path.{_≡_, sym}
 use mathlib.Core.Bool.{false}
+use Prim.Native.Nat.{_≤_, _<_}
 use native.Mathlib.Numerals.{sub-one}
 use native.Mathlib.Omega.{arith}
+use Rattle.limits.specs.Limits.{mostRows}
 use Rattle.table.specs.Values.{valueOf}
 use Rattle.table.specs.Rows.{rowOf, noSuchColumn}
 use Rattle.table.proofs.RowLaws.{row-there}
@@ -26,45 +28,41 @@ returns-2 c =
       ← there .before .no-such-row .ensures,
     )
 
+-- row and column are there: the place at which this function was entered
+abbrev start-of : tie.Else2 → tie.Start
+start-of c = let there = c .before .before .before .before in there .before .before .before .before
+
 -- the row is one of the table's, so that the row before it has an end too
+row-is : (c : tie.Else2) → let s = start-of c .args in (0 < s .row) × (s .row ≤ mostRows)
+row-is c =
+    let there = c .before .before .before .before in let s = start-of c .args in
+    let h = row-there (s .table) (s .row) _ (there .before .no-such-row .ensures) (there .if1 .left) in (h .1, h .2)
+
+column-is : (c : tie.Else2) → let s = start-of c .args in noSuchColumn (s .table .layout) (s .column) ≡ false
+column-is c = rw (← c .before .before .count-columns .ensures, ← c .before .no-such .ensures) (c .if2 .left)
+
 sub-bound-of : tie.Need-sub-bound-of
-sub-bound-of c =
-    let there = c .before .before .before .before in let start = there .before .before .before .before in
-    let h = row-there (start .args .table) (start .args .row) _ (there .before .no-such-row .ensures) (there .if1 .left) in
-    omega arith
+sub-bound-of c = omega (arith, row-is c .0)
 
 bound-of-requires : tie.Need-bound-of-requires
-bound-of-requires c κs =
-    let there = c .before .before .before .before in let start = there .before .before .before .before in
-    let h = row-there (start .args .table) (start .args .row) _ (there .before .no-such-row .ensures) (there .if1 .left) in
-    omega arith
+bound-of-requires c κs = omega (arith, row-is c .1)
 
 bound-of-requires-2 : tie.Need-bound-of-requires-2
-bound-of-requires-2 c κs =
-    let there = c .before .before .before .before .before in let start = there .before .before .before .before in
-    let h = row-there (start .args .table) (start .args .row) _ (there .before .no-such-row .ensures) (there .if1 .left) in
-    omega arith
+bound-of-requires-2 c κs = row-is (c .before) .1
 
 value-between-requires : tie.Need-value-between-requires
-value-between-requires c κs =
-    let counted = c .before .before .before .before in
-    let start = counted .before .before .before .before .before .before in
-    let h : noSuchColumn (start .args .table .layout) (start .args .column) ≡ false =
-    rw (← counted .count-columns .ensures, ← c .before .before .before .no-such .ensures) (c .before .before .if2 .left) in
-    h
+value-between-requires c κs = column-is (c .before .before)
 
 returns-3 : tie.Need-returns-3
 unfolding valueOf rowOf
 returns-3 c =
-    let ended = c .before in let started = ended .before in let counted = started .before .before .before in
-    let there = counted .before .before in let start = there .before .before .before .before in
+    let ended = c .before in let started = ended .before in let at = started .before in
+    let there = at .before .before .before .before in
     simp (
-      sym (sub-one (start .args .row)),
+      sym (sub-one (start-of at .args .row)),
       ← started .bound-of .ensures,
       ← ended .bound-of2 .ensures,
-      started .before .if2 .left,
-      ← started .before .before .no-such .ensures,
-      ← counted .count-columns .ensures,
+      column-is at,
       there .if1 .left,
       ← there .before .no-such-row .ensures,
     )

@@ -13,55 +13,19 @@ returns-2 c = simp (c .enum-told2 .given .1, ← c .before .before .elements-byt
 
 returns-3 : tie.Need-returns-3
 unfolding shown
-returns-3 c =
-    let at-read4 = c .before in let at-enum-told3 = at-read4 .before in
-    let at-elements-bytes = at-enum-told3 .before .before in let at-elements-start = at-elements-bytes .before in
-    simp (
-      ← c .float-value .ensures,
-      ← at-read4 .read4 .ensures,
-      at-enum-told3 .enum-told3 .given .1,
-      ← at-elements-bytes .elements-bytes .ensures,
-      ← at-elements-start .elements-start .ensures,
-    )
+returns-3 c = simp (← c .float-value .ensures, ← c .before .read4 .ensures, c .before .before .enum-told3 .given .1)
 
 returns-4 : tie.Need-returns-4
 unfolding shown
-returns-4 c =
-    let at-read8 = c .before in let at-enum-told4 = at-read8 .before in
-    let at-elements-bytes = at-enum-told4 .before .before in let at-elements-start = at-elements-bytes .before in
-    simp (
-      ← c .double-value .ensures,
-      ← at-read8 .read8 .ensures,
-      at-enum-told4 .enum-told4 .given .1,
-      ← at-elements-bytes .elements-bytes .ensures,
-      ← at-elements-start .elements-start .ensures,
-    )
+returns-4 c = simp (← c .double-value .ensures, ← c .before .read8 .ensures, c .before .before .enum-told4 .given .1)
 
 returns-5 : tie.Need-returns-5
 unfolding shown
-returns-5 c =
-    let at-read2 = c .before in let at-enum-told5 = at-read2 .before in
-    let at-elements-bytes = at-enum-told5 .before .before in let at-elements-start = at-elements-bytes .before in
-    simp (
-      ← c .short-value .ensures,
-      ← at-read2 .read2 .ensures,
-      at-enum-told5 .enum-told5 .given .1,
-      ← at-elements-bytes .elements-bytes .ensures,
-      ← at-elements-start .elements-start .ensures,
-    )
+returns-5 c = simp (← c .short-value .ensures, ← c .before .read2 .ensures, c .before .before .enum-told5 .given .1)
 
 returns-6 : tie.Need-returns-6
 unfolding shown
-returns-6 c =
-    let at-read42 = c .before in let at-enum-told6 = at-read42 .before in
-    let at-elements-bytes = at-enum-told6 .before .before in let at-elements-start = at-elements-bytes .before in
-    simp (
-      ← c .integer-value .ensures,
-      ← at-read42 .read42 .ensures,
-      at-enum-told6 .enum-told6 .given .1,
-      ← at-elements-bytes .elements-bytes .ensures,
-      ← at-elements-start .elements-start .ensures,
-    )
+returns-6 c = simp (← c .integer-value .ensures, ← c .before .read42 .ensures, c .before .before .enum-told6 .given .1)
 
 returns-7 : tie.Need-returns-7
 unfolding shown
@@ -93,7 +57,7 @@ returns-12 c = simp (c .enum-told12 .given .1)
 
 returns-13 : tie.Need-returns-13
 unfolding shown
-returns-13 c = simp (← c .triplet-value .ensures, c .before .enum-told13 .given .1, ← c .before .before .before .before .elements-start .ensures)
+returns-13 c = simp (← c .triplet-value .ensures, c .before .enum-told13 .given .1)
 
 pub show-spec : {M : Type 1} → statement M
 show-spec =

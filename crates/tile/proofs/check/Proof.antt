@@ -5,7 +5,8 @@ use native.Mathlib.Omega.{arith}
 use Rattle.side.specs.Edges.{edges}
 use Rattle.tile.specs.Columns.{Tile, tile}
 use Rattle.tile.specs.Check.{sizesWrong}
-use Rattle.tile.proofs.JudgeLaws.{rows-within, wrong-sizes, no-space, accepted, refused}
+use Rattle.tile.proofs.SizeLaws.{rows-within}
+use Rattle.tile.proofs.JudgeLaws.{wrong-sizes, no-space, accepted, refused}
 use borrow.Author.Needs.{needs}
 use Rattle.tile.proofs.check.Statement.{statement}
 use Rattle.tile.proofs.check.Tie as tie

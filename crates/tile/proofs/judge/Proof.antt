@@ -16,7 +16,8 @@ use Rattle.side.specs.Edges.{edges}
 use Rattle.limits.specs.Limits.{mostRows}
 use Rattle.tile.specs.Serving.Stages.{ownersPainted, laterTests}
 use Rattle.tile.specs.Columns.{Tile, tile, E, F, R, N, sides, Regular}
-use Rattle.tile.proofs.JudgeLaws.{rows-within, regular, sides-fine, starts-found, at-edges, at-predecessors, at-rings, at-owners}
+use Rattle.tile.proofs.SizeLaws.{rows-within, regular}
+use Rattle.tile.proofs.JudgeLaws.{sides-fine, starts-found, at-edges, at-predecessors, at-rings, at-owners}
 use Rattle.tile.proofs.JudgeLaws.{erased, erased-at-once, painted-front, painted-erased, painted-kept}
 use Rattle.tile.proofs.OwnerLaws.{tally-fine, tally-refused, fronted}
 use borrow.Author.Needs.{needs}

@@ -4,7 +4,7 @@ use lib.ListN.{length}
 use Rattle.side.specs.Edges.{edges}
 use Rattle.tile.specs.Columns.{Tile, tile, E}
 use Rattle.tile.proofs.OwnerLaws.{side-with-within}
-use Rattle.tile.proofs.JudgeLaws.{regular}
+use Rattle.tile.proofs.SizeLaws.{regular}
 use Rattle.tile.proofs.WalkLaws.{walk-sizes, walk-no-row, walk-no-start, walk-empty, walk-on, walk-written}
 use borrow.Author.Needs.{needs}
 use Rattle.tile.proofs.walk.Statement.{statement}

@@ -10,23 +10,23 @@ use mathlib.Core.Path.{_∙_}
 gather-requires : tie.Need-gather-requires
 gather-requires c κs =
     let start = c .before .before in
-    (start .pre, rw (c .within-limit .ensures) (min-le-right (start .args .n) mostColumns))
+    (start .pre, rw (c .columns-within .ensures) (min-le-right (start .args .n) mostColumns))
 
 returns : tie.Need-returns
 returns c =
     let at-refuse = c .before in let at-if1 = at-refuse .before in let at-gather = at-if1 .before .before in
-    let at-within-limit = at-gather .before in let start = at-within-limit .before .before in
-    found-wrong (start .args .head .now) (start .args .n) (at-gather .gather .result) (at-within-limit .within-limit .result)
-    (at-within-limit .within-limit .ensures) (at-gather .gather .ensures) _ (c .refused .result) (at-refuse .refuse .result) (at-if1 .if1 .taken)
+    let at-columns-within = at-gather .before in let start = at-columns-within .before .before in
+    found-wrong (start .args .head .now) (start .args .n) (at-gather .gather .result) (at-columns-within .columns-within .result)
+    (at-columns-within .columns-within .ensures) (at-gather .gather .ensures) _ (c .refused .result) (at-refuse .refuse .result) (at-if1 .if1 .taken)
     (c .refused .ensures) (at-refuse .refuse .ensures)
 
 judge-past-requires : tie.Need-judge-past-requires
 judge-past-requires c κs =
-    let at-if1 = c .before in let at-gather = at-if1 .before .before in let at-within-limit = at-gather .before in
-    let start = at-within-limit .before .before in (
+    let at-if1 = c .before in let at-gather = at-if1 .before .before in let at-columns-within = at-gather .before in
+    let start = at-columns-within .before .before in (
       (start .pre, c .if2 .taken),
       found-many (start .args .head .now) (start .args .n) (at-gather .gather .result)
-          (at-within-limit .within-limit .result) (at-within-limit .within-limit .ensures) (at-gather .gather .ensures)
+          (at-columns-within .columns-within .result) (at-columns-within .columns-within .ensures) (at-gather .gather .ensures)
           (at-if1 .if1 .left) (c .if2 .taken),
     )
 
@@ -38,18 +38,18 @@ returns-2 c =
 
 judge-kept-requires : tie.Need-judge-kept-requires
 judge-kept-requires c κs =
-    let at-if1 = c .before in let at-gather = at-if1 .before .before in let at-within-limit = at-gather .before in
-    let start = at-within-limit .before .before in
-    let w = found-few (start .args .head .now) (start .args .n) (at-gather .gather .result) (at-within-limit .within-limit .result)
-    (at-within-limit .within-limit .ensures) (at-gather .gather .ensures) (at-if1 .if1 .left) (c .if2 .left) in
+    let at-if1 = c .before in let at-gather = at-if1 .before .before in let at-columns-within = at-gather .before in
+    let start = at-columns-within .before .before in
+    let w = found-few (start .args .head .now) (start .args .n) (at-gather .gather .result) (at-columns-within .columns-within .result)
+    (at-columns-within .columns-within .ensures) (at-gather .gather .ensures) (at-if1 .if1 .left) (c .if2 .left) in
     (c .if2 .left, w .0, w .1)
 
 returns-3 : tie.Need-returns-3
 returns-3 c =
     let at-if2 = c .before in let at-if1 = at-if2 .before in let at-gather = at-if1 .before .before in
-    let at-within-limit = at-gather .before in let start = at-within-limit .before .before in
+    let at-columns-within = at-gather .before in let start = at-columns-within .before .before in
     c .judge-kept .ensures ∙ few-judged (start .args .head .now) (start .args .n) (at-gather .gather .result)
-    (at-within-limit .within-limit .result) (at-within-limit .within-limit .ensures) (at-gather .gather .ensures)
+    (at-columns-within .columns-within .result) (at-columns-within .columns-within .ensures) (at-gather .gather .ensures)
     (at-if1 .if1 .left) (at-if2 .if2 .left) _
 
 pub judge-columns-spec : {M : Type 1} → statement M

@@ -14,7 +14,7 @@ use Rattle.laws.specs.Buffer.{oneTo}
 use Rattle.laws.specs.Lowest.{None}
 use lib.ListN.{replicate}
 use native.Mathlib.Omega.{arith}
-use Prim.Native.Nat.{_-_, _*_, _≤_}
+use Prim.Native.Nat.{_-_, _*_, _≤_, _<_}
 use mathlib.Core.List.{_++_}
 use mathlib.Core.Path.{_≡_, refl, sym, ap, _∙_}
 
@@ -52,27 +52,19 @@ loop-holds c =
       none-start (unsound (start .args .head .now)),
     )
 
+-- a name that lies within the text has places that fit two bytes
+places-fit : (c : tie.After-definition-at Inv-loop μ-loop) → let name = c .definition-at .result .name in
+    (name .start < 65536) × (name .end < 65536)
+places-fit c =
+    let at-loop = c .before .before in let start = at-loop .before .before .before .before in let b = at-loop .loop in
+    let near = name-near (start .args .head .now) (b .k) (b .at) (c .definition-at .result) (b .inv .1) (c .definition-at .ensures .0) in
+    (omega (arith, start .pre, near), omega (arith, start .pre, near))
+
 cast-starts : tie.Need-cast-starts Inv-loop μ-loop
-cast-starts c =
-    let at-definition-at = c .before .before .before .before .before in
-    let at-loop = at-definition-at .before .before in let start = at-loop .before .before .before .before in
-    omega (
-      arith,
-      start .pre,
-      name-near (start .args .head .now) (at-loop .loop .k) (at-loop .loop .at) (at-definition-at .definition-at .result)
-          (at-loop .loop .inv .1) (at-definition-at .definition-at .ensures .0),
-    )
+cast-starts c = omega (arith, places-fit (c .before .before .before .before .before))
 
 cast-ends : tie.Need-cast-ends Inv-loop μ-loop
-cast-ends c =
-    let at-definition-at = c .before .before .before .before .before .before in
-    let at-loop = at-definition-at .before .before in let start = at-loop .before .before .before .before in
-    omega (
-      arith,
-      start .pre,
-      name-near (start .args .head .now) (at-loop .loop .k) (at-loop .loop .at) (at-definition-at .definition-at .result)
-          (at-loop .loop .inv .1) (at-definition-at .definition-at .ensures .0),
-    )
+cast-ends c = omega (arith, places-fit (c .before .before .before .before .before .before))
 
 add-bytes : tie.Need-add-bytes Inv-loop μ-loop
 add-bytes c =

@@ -8,7 +8,7 @@ use Rattle.table.specs.Rows.{boundOf}
 use Rattle.table.proofs.PlanLaws.{bound-first}
 use Rattle.load.specs.Sources.{atPlace}
 use Rattle.load.specs.Cells.{cellOf}
-use Rattle.load.proofs.CellLaws.{six-there, Ready, ready, Written, written-next, written-all, turn, cells-read}
+use Rattle.load.proofs.CellLaws.{six-there, Ready, ready, Written, written-all, turn, cells-read, written-cell}
 
 abbrev Inv-loop : tie.InvT-loop
 Inv-loop file index sn₀ en₀ rf₀ lf₀ re₀ le₀ columns layout rows order plan letters places₀ start₀ i₀ sn en rf lf re le places start i =
@@ -84,22 +84,17 @@ loop-again c =
     (at-walk-row .walk-row .ensures .1) in
     let v = cells-read (s .file .now) (s .index .now) l (b .i) (l .columns) _ _ _ (s .t4) (at-edge-letters .edge-letters .result)
     (at-edge-cells .edge-cells .result) t (start .pre .1 .1 .0) (omega arith) (at-edge-letters .edge-letters .ensures)
-    (at-edge-cells .edge-cells .ensures) in (
+    (at-edge-cells .edge-cells .ensures) in
+    let w = written-cell g (b .i) (s .table .rows) (at-edge-cells .edge-cells .result) (at-loop-test .loop-test .taken) v in (
       omega arith,
       t .ends,
       t .still,
-      written-next (g 1) (b .i) _ (s .start-node .now) (b .start-node) _ (b .inv .3) (at-put .put .ensures)
-          (v 0 (omega arith)) (omega (arith, at-loop-test .loop-test .taken, h .0)),
-      written-next (g 2) (b .i) _ (s .end-node .now) (b .end-node) _ (b .inv .4) (at-put2 .put2 .ensures)
-          (v 1 (omega arith)) (omega (arith, at-loop-test .loop-test .taken, h .1)),
-      written-next (g 3) (b .i) _ (s .right-face .now) (b .right-face) _ (b .inv .5) (at-put3 .put3 .ensures)
-          (v 2 (omega arith)) (omega (arith, at-loop-test .loop-test .taken, h .2)),
-      written-next (g 4) (b .i) _ (s .left-face .now) (b .left-face) _ (b .inv .6) (at-put4 .put4 .ensures)
-          (v 3 (omega arith)) (omega (arith, at-loop-test .loop-test .taken, h .3)),
-      written-next (g 5) (b .i) _ (s .right-edge .now) (b .right-edge) _ (b .inv .7) (at-put5 .put5 .ensures)
-          (v 4 (omega arith)) (omega (arith, at-loop-test .loop-test .taken, h .4)),
-      written-next (g 6) (b .i) _ (s .left-edge .now) (b .left-edge) _ (b .inv .8) (at-put6 .put6 .ensures)
-          (v 5 (omega arith)) (omega (arith, at-loop-test .loop-test .taken, h .5)),
+      w 0 (omega arith) (s .start-node .now) (b .start-node) _ (b .inv .3) (at-put .put .ensures) (h .0),
+      w 1 (omega arith) (s .end-node .now) (b .end-node) _ (b .inv .4) (at-put2 .put2 .ensures) (h .1),
+      w 2 (omega arith) (s .right-face .now) (b .right-face) _ (b .inv .5) (at-put3 .put3 .ensures) (h .2),
+      w 3 (omega arith) (s .left-face .now) (b .left-face) _ (b .inv .6) (at-put4 .put4 .ensures) (h .3),
+      w 4 (omega arith) (s .right-edge .now) (b .right-edge) _ (b .inv .7) (at-put5 .put5 .ensures) (h .4),
+      w 5 (omega arith) (s .left-edge .now) (b .left-edge) _ (b .inv .8) (at-put6 .put6 .ensures) (h .5),
     )
 
 returns : tie.Need-returns Inv-loop μ-loop

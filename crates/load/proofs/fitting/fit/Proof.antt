@@ -1,4 +1,6 @@
 use Rattle.load.proofs.FitLaws.{in-layout}
+use mathlib.Core.Path.{_≡_}
+use mathlib.Core.Bool.{cond}
 use borrow.Author.Needs.{needs}
 use Rattle.load.specs.Sources.{fitting}
 use Rattle.load.proofs.fitting.fit.Statement.{statement}
@@ -12,31 +14,24 @@ column-kind-requires : tie.Need-column-kind-requires
 column-kind-requires c κs = in-layout ((c .before .before .args) .layout) ((c .before .before .args) .column) _
     ((c .before .no-such-column) .ensures) ((c .if1) .left)
 
-returns-2 : tie.Need-returns-2
+-- a column that is there is taken where its type fits
+there : (c : tie.After-type-fits) → let s = c .before .before .before .before .args in
+    fitting (s .layout) (s .place) (s .column) ≡ cond (c .type-fits .result) (s .column) 0
 unfolding fitting
-returns-2 c =
-    let at-type-fits = c .before in let at-column-kind = at-type-fits .before in let at-if1 = at-column-kind .before in
-    let at-no-such-column = at-if1 .before in
+there c =
+    let at-column-kind = c .before in let at-if1 = at-column-kind .before in
     simp (
-      c .if2 .taken,
-      ← at-type-fits .type-fits .ensures,
+      ← c .type-fits .ensures,
       ← at-column-kind .column-kind .ensures,
       at-if1 .if1 .left,
-      ← at-no-such-column .no-such-column .ensures,
+      ← at-if1 .before .no-such-column .ensures,
     )
 
+returns-2 : tie.Need-returns-2
+returns-2 c = rw (there (c .before), c .if2 .taken)
+
 returns-3 : tie.Need-returns-3
-unfolding fitting
-returns-3 c =
-    let at-type-fits = c .before in let at-column-kind = at-type-fits .before in let at-if1 = at-column-kind .before in
-    let at-no-such-column = at-if1 .before in
-    simp (
-      c .if2 .left,
-      ← at-type-fits .type-fits .ensures,
-      ← at-column-kind .column-kind .ensures,
-      at-if1 .if1 .left,
-      ← at-no-such-column .no-such-column .ensures,
-    )
+returns-3 c = rw (there (c .before), c .if2 .left)
 
 pub fit-spec : {M : Type 1} → statement M
 fit-spec =

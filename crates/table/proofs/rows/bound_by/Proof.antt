@@ -6,7 +6,7 @@ use Rattle.table.proofs.rows.bound_by.Tie as tie
 
 returns : tie.Need-returns
 unfolding boundBy
-returns c = simp (← c .entry-bound .ensures, eq-eqb _ _ (c .before .if1 .taken), ← c .before .before .lesser .ensures)
+returns c = simp (← c .entry-end .ensures, eq-eqb _ _ (c .before .if1 .taken), ← c .before .before .lesser .ensures)
 
 returns-2 : tie.Need-returns-2
 unfolding boundBy
