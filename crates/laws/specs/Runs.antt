@@ -1,4 +1,4 @@
--- "Exactly one unbroken run that starts at" a row: what a column of numbers has of one number.
+-- One unbroken run in a column of numbers.
 use mathlib.Core.Path.{_≡_}
 use mathlib.Core.List.{List}
 use Prim.Native.Nat.{ℕ, suc, _+_, _≤_, _<_}
@@ -6,7 +6,8 @@ use lib.ListN.{length}
 use Rattle.laws.specs.Lowest.{In}
 use Rattle.laws.specs.Orbit.{entry}
 
--- the rows of the column that hold f are those from row p on, and no other
+-- the rows of the column that hold f are exactly one unbroken run that starts at row p: some rows from p on, within the column, hold it,
+-- and no other row does
 pub record OneRunFrom (column : List ℕ) (f p : ℕ) : Type 0 where
   pub rows : ℕ
   pub some : 0 < rows

@@ -31,16 +31,22 @@ abbrev pub headerSize : Layout → List ℕ → ℕ
 headerSize l index = number (l .order) index 4 4
 
 -- entry k, from 1, stands at 8k
+abbrev pub offsetIn : Order → List ℕ → ℕ → ℕ
+offsetIn o index k = number o index (8 * k) 4
+
+abbrev pub lengthIn : Order → List ℕ → ℕ → ℕ
+lengthIn o index k = number o index (8 * k + 4) 4
+
 abbrev pub offsetAt : Layout → List ℕ → ℕ → ℕ
-offsetAt l index k = number (l .order) index (8 * k) 4
+offsetAt l index k = offsetIn (l .order) index k
 
 abbrev pub lengthAt : Layout → List ℕ → ℕ → ℕ
-lengthAt l index k = number (l .order) index (8 * k + 4) 4
+lengthAt l index k = lengthIn (l .order) index k
 
 -- where row k ends by its entry, in a file of the order whose row 1 starts at `first`; row 0, which is none, ends there
 abbrev pub entryEnd : Order → List ℕ → ℕ → ℕ → ℕ
 entryEnd o index first zero = first
-entryEnd o index first (suc k) = number o index (8 * suc k) 4 + number o index (8 * suc k + 4) 4
+entryEnd o index first (suc k) = offsetIn o index (suc k) + lengthIn o index (suc k)
 
 -- in a table of the layout: "Row 1 starts at L + 4"
 unfoldable pub endAt : Layout → List ℕ → ℕ → ℕ

@@ -10,13 +10,10 @@ use Rattle.load.specs.declared.TableName.{TableName}
 use Rattle.load.specs.declared.TableName.the-variants.{Edg, Fac, Rng, Cnd}
 use Rattle.load.specs.declared.Tables.{Tables}
 use Rattle.load.specs.declared.TableNames.{TableNames}
-use Rattle.load.specs.Sources.{Files, files, fileOf, indexOf, tableIn, nameAt, fitting, ten}
+use Rattle.load.specs.Sources.{Files, files, byTable, fileOf, indexOf, tableIn, nameAt, fitting, ten}
 
 abbrev pub namesIn : TableNames → TableName → Names
-namesIn s Edg = s .edg
-namesIn s Fac = s .fac
-namesIn s Rng = s .rng
-namesIn s Cnd = s .cnd
+namesIn s n = byTable (s .edg) (s .fac) (s .rng) (s .cnd) n
 
 -- as the openings left them
 abbrev pub namesGiven : Files → ℕ → TableName → Names
