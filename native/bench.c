@@ -173,33 +173,62 @@ static void edge_table(size_t rows, bool varies) {
 #define BIG big.file, big.size, big.index, big.index_size
 
 
+/* a header of so many columns */
+static void many_columns(size_t columns) {
+    begin_table(&big, 'L', "Edge Primitive Table", "-");
+    add_column(&big, "id", 'I', "1", 'P', "Row Identifier");
+    for (size_t k = 2; k <= columns; k++) {
+        char name[32];
+        snprintf(name, sizeof name, "column_%zu", k);
+        add_column(&big, name, 'I', "1", 'N', "A column");
+    }
+    end_header(&big);
+}
+
+/* a header text of L = 32,767, of more columns than are taken */
+static void longest_text(void) {
+    begin_table(&big, 'L', "", "-");
+    add_column(&big, "id", 'I', "1", 'P', "");
+    while (big.size < MOST_TEXT + 4 - 60) {
+        big.columns = 1;
+        add_column(&big, "a_column", 'I', "1", 'N', "");
+    }
+    size_t rest = MOST_TEXT + 4 - big.size - 1 - strlen("z=I,1,N,,-,-,-,:");
+    char about[80];
+    memset(about, 'x', rest);
+    about[rest] = 0;
+    add_column(&big, "z", 'I', "1", 'N', about);
+    end_header(&big);
+}
+
 static void headers(void) {
     printf("\nHeaders\n%-34s %12s %12s %7s\n", "", "ours ns", "C ns", "ratio");
-    for (int i = 0; i < 2; i++) {
-        if (i == 0) {
-            edge_table(1, true);
-        } else {
-            begin_table(&big, 'L', "", "-");
-            add_column(&big, "id", 'I', "1", 'P', "");
-            while (big.size < MOST_TEXT + 4 - 60) {
-                big.columns = 1;
-                add_column(&big, "a_column", 'I', "1", 'N', "");
-            }
-            size_t rest = MOST_TEXT + 4 - big.size - 1 - strlen("z=I,1,N,,-,-,-,:");
-            char about[80];
-            memset(about, 'x', rest);
-            about[rest] = 0;
-            add_column(&big, "z", 'I', "1", 'N', about);
-            end_header(&big);
-        }
-        int many = i ? 20 : 2000;
+    for (int i = 0; i < 4; i++) {
+        if (i == 0) edge_table(1, true);
+        else if (i < 3) many_columns(i == 1 ? 64 : 128);
+        else longest_text();
+        int many = i == 0 ? 2000 : i < 3 ? 200 : 20;
         size_t sum = 0;
         BEST(50, for (int k = 0; k < many; k++) sum += vumbarete_header(big.file, big.size).number,
              for (int k = 0; k < many; k++) sum += ref_header(big.file, big.size).number, a, b)
         sink = sum;
-        char what[64];
-        snprintf(what, sizeof what, "header of %zu bytes, L = %zu", big.start, big.start - 4);
+        char what[80];
+        uint32_t number = vumbarete_header(big.file, big.size).number;
+        snprintf(what, sizeof what, i == 0 || i == 3 ? "L = %zu, refused with %u" : "%zu columns, refused with %u", i == 0 || i == 3 ? big.start - 4 : big.columns, number);
         printf("%-34s %12.0f %12.0f %7.3f   ours %.0f per second\n", what, a / many * 1e9, b / many * 1e9, a / b, many / a);
+    }
+}
+
+/* one value of the last row and column: the table is opened for it */
+static void values(void) {
+    printf("\nOne value of a table of 20 rows, opening and all\n%-34s %12s %12s %7s\n", "", "ours ns", "C ns", "ratio");
+    for (int varies = 0; varies < 2; varies++) {
+        size_t n = 20, sum = 0, last = varies ? 8 : 7;
+        edge_table(n, varies);
+        if (vumbarete_value(BIG, n, last).number) fprintf(stderr, "value refused\n"), exit(1);
+        BEST(50, for (int k = 0; k < 1000; k++) sum += vumbarete_value(BIG, n, last).number, for (int k = 0; k < 1000; k++) sum += ref_value(BIG, n, last).number, a, b)
+        sink = sum;
+        printf("%-34s %12.0f %12.0f %7.3f\n", varies ? "I, K and C* columns, with index" : "I columns, one width", a * 1e6, b * 1e6, a / b);
     }
 }
 
@@ -261,6 +290,7 @@ static void beside_ogdi(const char *folder) {
 
 int main(int argc, char **argv) {
     headers();
+    values();
     rows();
 #ifdef OGDI
     beside_ogdi(argc > 1 ? argv[1] : ".");

@@ -179,7 +179,7 @@ static void random_fields(made_table *t, size_t row) {
 static void right_table(made_table *t) {
     static const char types[] = "TLFRSICZBYDXK";
     char title[96], narrative[16], name[32], about[96], count[8];
-    size_t columns = chance(60) ? 60 + below(6) : 1 + below(7), id = below(columns);
+    size_t columns = chance(60) ? MOST_COLUMNS - 4 + below(6) : 1 + below(7), id = below(columns);
     bool fixed = chance(2), faulty = chance(12);
     begin_table(t, "LM\0"[below(3)], printable(title, 0, 80, ";"), printable(narrative, 1, 12, ";"));
     for (size_t k = 0; k < columns; k++) {
@@ -194,7 +194,7 @@ static void right_table(made_table *t) {
         else snprintf(count, sizeof count, "%u", several ? (unsigned)(1 + below(3)) : 1u);
         snprintf(name, sizeof name, "%c%zu", (char)('a' + below(26)), chance(40) ? below(k + 1) : k);
         if (chance(3)) printable(name + strlen(name), 0, 24 - strlen(name), ";:,=");
-        if (chance(80)) strcpy(name, "iD");
+        if (chance(80 + 4 * columns)) strcpy(name, "iD");
         char key = "UN"[below(2)];
         if (faulty && chance(6)) { /* what the grammar takes and the rules do not */
             if (chance(3)) key = "PXpu "[below(5)];
@@ -279,8 +279,8 @@ static void some_table(made_table *t) {
         add_column(t, "id", 'I', "1", 'P', "");
         while (t->size < MOST_TEXT - 60) {
             char name[16];
-            snprintf(name, sizeof name, "c%zu", t->columns % 70);
-            t->columns %= 70;
+            snprintf(name, sizeof name, "c%zu", t->columns % (MOST_COLUMNS + 6));
+            t->columns %= MOST_COLUMNS + 6;
             add_column(t, name, 'I', "1", 'N', "");
         }
         end_header(t);

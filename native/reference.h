@@ -5,7 +5,7 @@
 
 /* document 01's limits, for the plain C and for what is made up to try both */
 #define MOST_TEXT 32767
-#define MOST_COLUMNS 64
+#define MOST_COLUMNS 128
 #define MOST_ROWS 1000000
 
 /* the ten columns of a tile, each with its own length */

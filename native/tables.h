@@ -15,8 +15,8 @@ typedef struct {
     size_t index_size;
     bool most, varies;
     size_t start, columns, rows;
-    uint8_t type[80];
-    uint32_t count[80]; /* 0 for a star */
+    uint8_t type[MOST_COLUMNS + 16];
+    uint32_t count[MOST_COLUMNS + 16]; /* 0 for a star */
 } made_table;
 
 static inline void put_number(uint8_t *p, uint64_t v, int n, bool most) {

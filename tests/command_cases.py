@@ -279,8 +279,8 @@ def shown_in_readme():
 
 @of
 def large():
-    """several: large tiles, one of 998 rings and one of 1,000 edges around, whole"""
-    many, around = loops("l", 499), round_tile("r", 1000)
+    """several: large tiles, one of 1,998 rings and one of 2,000 edges around, whole"""
+    many, around = loops("l", 999), round_tile("r", 2000)
     expect(run(["l"]), many, NOTHING, 0)
     expect(run(["r"]), around, NOTHING, 0)
     both = "".join(f"{name}: {text}\n" for name, said in (("l", many), ("r", around)) for text in said.splitlines())
@@ -768,8 +768,8 @@ def measure():
     import resource
     os.chdir(work)
     tile("small")
-    says = {"small": MJ21, "loops": loops("loops", 499), "round": round_tile("round", 1000)}
-    what = {"small": "MJ21", "loops": "998 rings", "round": "1,000 edges around a face"}
+    says = {"small": MJ21, "loops": loops("loops", 999), "round": round_tile("round", 2000)}
+    what = {"small": "MJ21", "loops": "1,998 rings", "round": "2,000 edges around a face"}
 
     def runs_with(where, kilobytes):
         size = kilobytes * 1024

@@ -174,15 +174,15 @@ add("4 of column 1 before 4 of column 2", table(header(column("a", key="Q"), col
 add("4 before 5 and 6", table(header(column("a"), column("A"), column("b", kind="F", count="2"))), says=refused(4, 3))
 
 # 5: columns and names.
-many = [ID] + [column(f"c{k}", kind="S") for k in range(2, 201)]
+many = [ID] + [column(f"c{k}", kind="S") for k in range(2, MOST_COLUMNS + 3)]
 M = MOST_COLUMNS
-add(f"{M} columns", table(header(*many[:M])), says=(len(header(*many[:M])) + 4, M, 4 + (M - 1) * 2), name=f"C{M}")
-add(f"{M + 1} columns", table(header(*many[:M + 1])), says=refused(5, M + 1))
-add(f"{M} columns under M", table(header(*many[:M], letter="M")), says=(len(header(*many[:M])) + 4, M, 4 + (M - 1) * 2), name="c2")
-add(f"{M + 1} columns under M", table(header(*many[:M + 1], letter="M")), says=refused(5, M + 1))
-add(f"{M + 1} columns, two with one name", table(header(ID, ID, *many[2:M + 1])), says=refused(5, M + 1))
-add(f"{M + 2} columns, 4 of the last", table(header(*many[:M + 1], column("x", kind="Q"))), says=refused(4, M + 2))
-add(f"{M} columns, the last named as the first", table(header(*many[:M - 1], column("Id"))), says=refused(5, M))
+add(f"{M} columns", table(header(*many[:M])), says=(len(header(*many[:M])) + 4, M, 4 + (M - 1) * 2), name=f"C{M}", to=longer)
+add(f"{M + 1} columns", table(header(*many[:M + 1])), says=refused(5, M + 1), to=longer)
+add(f"{M} columns under M", table(header(*many[:M], letter="M")), says=(len(header(*many[:M])) + 4, M, 4 + (M - 1) * 2), name="c2", to=longer)
+add(f"{M + 1} columns under M", table(header(*many[:M + 1], letter="M")), says=refused(5, M + 1), to=longer)
+add(f"{M + 1} columns, two with one name", table(header(ID, ID, *many[2:M + 1])), says=refused(5, M + 1), to=longer)
+add(f"{M + 2} columns, 4 of the last", table(header(*many[:M + 1], column("x", kind="Q"))), says=refused(4, M + 2), to=longer)
+add(f"{M} columns, the last named as the first", table(header(*many[:M - 1], column("Id"))), says=refused(5, M), to=longer)
 add("two names alike", table(header(ID, column("a"), column("b"), column("A"))), says=refused(5, 4))
 add("a b b a", table(header(ID, column("a"), column("b"), column("B"), column("A"))), says=refused(5, 4))
 add("two columns id", table(header(ID, column("ID"))), says=refused(5, 2))
@@ -202,11 +202,11 @@ add("key P on another column alone", table(header(column("id"), column("a", key=
 add("key U on another column", table(header(ID, column("a", key="U"))), says=(len(header(ID, column("a"))) + 4, 2, 8))
 
 # The longest header that is accepted, and L of 32,767 and 32,768: in the grammar, with more than 200 columns.
-full = [column(f"{k:02}".ljust(24, "n"), kind="T", count="65535", description="d" * 80, value="v" * 12, thematic="t" * 12, narrative="r" * 12) for k in range(63)]
+full = [column(f"{k:03}".ljust(24, "n"), kind="Y", count="65535", description="d" * 80, value="v" * 12, thematic="t" * 12, narrative="r" * 12) for k in range(M - 1)]
 full_id = column("id", key="P", description="d" * 80, value="v" * 12, thematic="t" * 12, narrative="r" * 12)
 longest = header(full_id, *full, description="d" * 80, narrative="n" * 12)
-assert len(longest) == 10055
-add("the longest header", table(longest), says=(len(longest) + 4, M, 4 + (M - 1) * 65535), to=long)
+assert len(longest) == 20039
+add("the longest header", table(longest), says=(len(longest) + 4, M, 4 + (M - 1) * 65535 * 24), to=long)
 
 
 def of_length(length):

@@ -2,7 +2,7 @@
 implemented here anew, and shared by the scripts that write test cases."""
 import collections
 
-MOST_TEXT, MOST_COLUMNS = 32767, 64
+MOST_TEXT, MOST_COLUMNS = 32767, 128
 ORDERS = {"L": "little", "M": "big", ";": "little"}
 
 # --- the grammar: fields one after the other, each with its least and most bytes, the bytes that it takes, and what follows it ---

@@ -5,7 +5,7 @@ The last line is `N passed, M failed`; native/program calls this.
 
 What must be written comes from the directories of tests/vectors, and from these rules of document 01. "A file that cannot be read counts as
 empty": an empty table is refused with 1 at 0, an empty index that is needed with 8 at 0. "each at most 65,536 bytes ... Larger is 15":
-here stand the files that do not fit a case of vector_cases, of 65,536 bytes and more, each read whole and lent whole."""
+here stand files of 65,536 bytes and more, which the program reads whole, or finds larger by one byte more."""
 import errno
 import os
 import pathlib

@@ -60,7 +60,7 @@ add("P1 without a letter, from the second", table(P1[1:], rows=bytes(24)), P1.in
 
 # One column, as many as there may be, and names of one byte and of 24.
 add("one column", table(header(ID)), 13, "id")
-many = [ID] + [column(f"c{k}", kind="S", description="d" * k) for k in range(2, MOST_COLUMNS + 1)]
+many = [ID] + [column(f"c{k}", kind="S", description="d" * (k % 81)) for k in range(2, MOST_COLUMNS + 1)]
 last = f"c{MOST_COLUMNS}"
 add(f"{MOST_COLUMNS} columns, from the last", table(header(*many)), 4 + header(*many).index(last), last)
 add("short and long names", table(header(ID, column("n"), column("N" * 24), column("-"))), 4, refused(13, 4))

@@ -4,7 +4,7 @@ import itertools
 import math
 import struct
 from casefile import Cases, number, refused
-from header_rules import ID, ORDERS, WIDTHS, Refused, column, header, read, row_width, table
+from header_rules import ID, MOST_COLUMNS, ORDERS, WIDTHS, Refused, column, header, read, row_width, table
 
 MOST_ROWS = 1000000
 LARGEST_PART = 2**31 - 1
@@ -240,6 +240,19 @@ for letter in "LM":
             width = WIDTH[k >> shift & 3]
             row += (k + {0: -k, 1: 0, 2: 1000, 4: 100000}[width]).to_bytes(width, ORDERS[letter])
     add(f"K in each form under {letter}", *indexed(text, [row]), says=[(1, 2, "triplet 0 0 1"), (1, 7, "triplet 0 6 1006"), (1, 64, "triplet 100063 100063 100063")])
+
+# As many columns as a table can have, of one width and with an index: each is found at its place, the last too.
+M = MOST_COLUMNS
+for letter in "LM":
+    shorts = [column(f"s{k}", "S") for k in range(2, M)]
+    rows = [ids(letter, i) + struct.pack(f"{mark(letter)}{M - 2}h", *range(100 * i + 2, 100 * i + M)) for i in (1, 2)]
+    text = header(ID, *shorts, column("last", "T", "3"), letter=letter)
+    add(f"{M} columns of fixed width under {letter}", table(text, rows=b"".join(r + b"end" for r in rows)),
+        says=[(1, 2, "short 102"), (2, M - 1, f"short {200 + M - 1}"), (2, M, f"text `end` at {len(text) + 4 + 2 * len(rows[0]) + 3}"), (2, M + 1, refused(13, M + 1))])
+    add(f"{M} columns with an index under {letter}", *indexed(header(ID, *shorts, column("last", "K"), letter=letter), [r + b"\x40\7" for r in rows]),
+        says=[(1, M - 1, f"short {100 + M - 1}"), (2, M, "triplet 7 0 0"), (2, M + 1, refused(13, M + 1))])
+    add(f"{M} columns, the last cut short, under {letter}", *indexed(header(ID, *shorts, column("last", "K"), letter=letter), [r + b"\x40" for r in rows]),
+        says=[(1, 1, refused(11, 1)), (2, M, refused(11, 1))])
 
 # The opening: a fixed width.
 FIXED = header(ID, column("s", "S"))

@@ -1,4 +1,4 @@
--- "each at most 65,536 bytes, with at most 1,000 rows per table. Larger is 15: sizes first, in that order ..., then rows as each table
+-- "each at most 65,536 bytes, with at most 2,000 rows per table. Larger is 15: sizes first, in that order ..., then rows as each table
 -- opens."
 use mathlib.Core.Bool.{Bool}
 use mathlib.Core.List.{List}

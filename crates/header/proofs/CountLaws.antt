@@ -4,15 +4,15 @@ use mathlib.Core.Logic.{by-cases}
 use mathlib.Core.List.{List, [], _∷_}
 use Prim.Native.Nat.{ℕ, suc, _+_, _-_, _*_, _≤_, _<_}
 use native.Mathlib.Omega.{arith}
-use native.Mathlib.Nat.{mul-le-mul, le-refl}
+use native.Mathlib.Nat.{mul-le-mul}
 use native.Mathlib.Numerals.{add-one}
 use native.Mathlib.Decide.{decLt}
 use lib.ListN.{length, getD, take, drop, length-take, List·getD-eq-default}
 use lib.Seq.{drop-cons, take-take, take-all, getD-take, getD-drop}
 use Rattle.number.specs.Bytes.{AreBytes}
 use Rattle.header.specs.Places.{decimal, countOf}
-use Rattle.field.specs.Fields.{widest}
-use Rattle.header.specs.Serving.Stages.{greatestCount}
+use Rattle.field.specs.Fields.{widest, mostCount}
+use Rattle.header.specs.Serving.Stages.{greatestCount, soundSize}
 
 -- digits only make a number greater
 decimal-above : (n : ℕ) (l : List ℕ) → n ≤ decimal n l
@@ -64,5 +64,5 @@ module _ (s : List ℕ) (p e : ℕ) where
   count-long h = let z : p + 5 - p ≡ 5 = omega arith in rw (z, take-take 5 (e - p) (drop p s) (omega arith))
 
 -- a count of elements, none wider than the widest
-pub size-room : (n w : ℕ) → w ≤ widest → n * w ≤ n * widest
-size-room n w h = mul-le-mul {n₂ = n} {m₂ = widest} (le-refl n) h
+pub size-room : (n w : ℕ) → n ≤ mostCount → w ≤ widest → n * w ≤ soundSize
+size-room n w l h = mul-le-mul {n₂ = mostCount} {m₂ = widest} l h

@@ -3,7 +3,7 @@ use mathlib.Core.Path.{_≡_, refl, sym, ap, _∙_}
 use mathlib.Core.Logic.{⊎-elim}
 use mathlib.Core.Bool.{Bool, true, false, cond, not, _&&_, _||_, false≢true}
 use mathlib.Core.List.{List, _++_}
-use Prim.Native.Nat.{ℕ, zero, suc, pred, _+_, _-_, _*_, _≤_, _<_}
+use Prim.Native.Nat.{ℕ, zero, suc, pred, _+_, _-_, _≤_, _<_}
 use native.Mathlib.Omega.{arith}
 use native.Mathlib.Numerals.{add-one}
 use borrow.Author.Tests.{eq-eqb, ne-eqb, leb-true, eqb-true, not-false}
@@ -17,7 +17,7 @@ use Rattle.limits.specs.Limits.{mostColumns}
 use Rattle.refusal.specs.Order.{refusedIf, refuses, located, atRow, lowestOf}
 use Rattle.refusal.proofs.OrderLaws.{located-zero, located-at}
 use Rattle.field.specs.declared.Lookup as look
-use Rattle.field.specs.Fields.{typeOf, widest, starOf, isInteger, mostCount, inRange, countRight}
+use Rattle.field.specs.Fields.{typeOf, starOf, isInteger, mostCount, inRange, countRight}
 use Rattle.field.proofs.TableRule.{letter-of-type}
 use Rattle.header.specs.declared.Definition.{Definition}
 use Rattle.header.specs.declared.ColumnLayout.{ColumnLayout}
@@ -25,8 +25,8 @@ use Rattle.header.specs.declared.Kept.{Kept}
 use Rattle.header.specs.Places.{definition, firstPlace, placeAfter, column}
 use Rattle.header.specs.Names.{namesFrom, namesOf}
 use Rattle.header.specs.Judge.{keyP, keyListed, soundAs, sound, columnRefusal, idSound, otherKeyP, idColumn, idWrong}
-use Rattle.header.specs.Layouts.{kindOf, varies, fieldSize, someVaries, bytesOfAll, columnLayout, blankColumn, laidOut, rowWidth}
-use Rattle.header.specs.Serving.Stages.{soundSize, unsound, keptOf, noneKept, gatheredAs, gatheredOf, idLaid, otherKeyIn, idWrongIn}
+use Rattle.header.specs.Layouts.{kindOf, countKept, someVaries, bytesOfAll, columnLayout, blankColumn, laidOut, rowWidth}
+use Rattle.header.specs.Serving.Stages.{unsound, keptOf, noneKept, gatheredAs, gatheredOf, idLaid, otherKeyIn, idWrongAt, idWrongIn}
 use Rattle.header.proofs.PlaceLaws.{is-column}
 
 -- ---- a sound definition
@@ -42,18 +42,14 @@ count-small : (n : ℕ) (many : Bool) → cond many (inRange n) (eqb n 1) ≡ tr
 count-small n true e = bool-cases (eqb n 0) (λ t. let z = eqb-true n 0 t in omega (arith, z)) (λ t. leb-true n mostCount (rw t at e))
 count-small n false e = let z = eqb-true n 1 e in omega (arith, z)
 
-size-as : (l : look.Lookup) (d : Definition) → soundAs l d ≡ true → d .star ≡ false → d .count ≤ mostCount
+count-as : (l : look.Lookup) (d : Definition) → soundAs l d ≡ true → d .star ≡ false → d .count ≤ mostCount
 unfolding countRight
-size-as (look.the-variants.Is t) d e f = count-small (d .count) (starOf t) (rw f at (listed-key (keyListed (d .key)) _ e))
-size-as look.the-variants.Unlisted d e f = never e
+count-as (look.the-variants.Is t) d e f = count-small (d .count) (starOf t) (rw f at (listed-key (keyListed (d .key)) _ e))
+count-as look.the-variants.Unlisted d e f = never e
 
--- so no fixed field of it is longer than the longest
-pub size-sound : (d : Definition) (size : ℕ) → sound d ≡ true → size ≡ fieldSize d → size ≤ d .count * widest → size ≤ soundSize
-unfolding sound fieldSize varies
-size-sound d size e q h =
-    bool-cases (d .star)
-    (λ t. let z : size ≡ 0 = rw t at q in omega (arith, z))
-    (λ t. omega (arith, h, size-as (typeOf (d .kind)) d e t))
+pub count-sound : (d : Definition) → sound d ≡ true → d .star ≡ false → d .count ≤ mostCount
+unfolding sound
+count-sound d e f = count-as (typeOf (d .kind)) d e f
 
 -- its letter is that of its type
 letter-as : (b : ℕ) (l : look.Lookup) (d : Definition) → typeOf b ≡ l → soundAs l d ≡ true → isInteger (kindOf l) ≡ eqb b 73
@@ -170,15 +166,24 @@ module _ (kept : Kept) (n id : ℕ) where
   unfolding idWrongIn
   kept-missing z = rw (eq-eqb id 0 z)
 
-  -- b is what the test of the `id` column says, c that of the keys
-  module _ (z : id ≡ 0 → ⊥) (b : Bool) (e : b ≡ idLaid (getD (kept .cols) (id - 1) blankColumn) (getD (kept .keys) (id - 1) 0)) where
-    pub kept-unsound : b ≡ false → true ≡ idWrongIn kept n id
-    unfolding idWrongIn
-    kept-unsound t = let q : pred id ≡ id - 1 = omega arith in rw (ne-eqb id 0 z, q, ← e, t)
+  pub kept-there : (id ≡ 0 → ⊥) → (b : Bool) → b ≡ idWrongAt (getD (kept .cols) (id - 1) blankColumn) (kept .keys) n id → b ≡ idWrongIn kept n id
+  unfolding idWrongIn
+  kept-there z b e = let q : pred id ≡ id - 1 = omega arith in rw (ne-eqb id 0 z, q) e
 
-    pub kept-sound : (c : Bool) → b ≡ true → c ≡ ltb 0 (lowest (otherKeyIn (kept .keys) id) n) → c ≡ idWrongIn kept n id
-    unfolding idWrongIn
-    kept-sound c t h = let q : pred id ≡ id - 1 = omega arith in rw (ne-eqb id 0 z, q, ← e, t) h
+-- b is what the test of the `id` column says, r that of the keys
+module _ (c : ColumnLayout) (keys : List ℕ) (n id : ℕ) (b : Bool) (e : b ≡ idLaid c (getD keys (id - 1) 0)) where
+  pub id-unsound : b ≡ false → true ≡ idWrongAt c keys n id
+  unfolding idWrongAt
+  id-unsound t = let q : pred id ≡ id - 1 = omega arith in rw (q, ← e, t)
+
+  pub id-elsewhere : (r : Bool) → b ≡ true → r ≡ ltb 0 (lowest (otherKeyIn keys id) n) → r ≡ idWrongAt c keys n id
+  unfolding idWrongAt
+  id-elsewhere r t h = let q : pred id ≡ id - 1 = omega arith in rw (q, ← e, t) h
+
+-- a count of 1 is kept
+kept-one : (star : Bool) (n : ℕ) (b : Bool) → (not star && (eqb (cond star 0 n) 1 && b)) ≡ (not star && (eqb n 1 && b))
+kept-one true n b = refl
+kept-one false n b = refl
 
 module _ (s : List ℕ) (n : ℕ) (z : lowest (unsound s) n ≡ 0) where
   key-at : (i : ℕ) → i < n → getD (keptOf s n .keys) i 0 ≡ column s (suc i) .key
@@ -194,14 +199,15 @@ module _ (s : List ℕ) (n : ℕ) (z : lowest (unsound s) n ≡ 0) where
   id-at i h =
       let d = column s (suc i) in
       let t : sound d ≡ true = not-false (sound d) (lowest-zero (unsound s) n z .fails (suc i) (omega arith) (omega arith)) in
-      ap (λ (b : Bool). b && (not (d .star) && (eqb (d .count) 1 && eqb (d .key) keyP))) (integer-sound d t)
+      ap (λ (b : Bool). b && (not (d .star) && (eqb (countKept d) 1 && eqb (d .key) keyP))) (integer-sound d t)
+      ∙ ap (λ (b : Bool). eqb (d .kind) 73 && b) (kept-one (d .star) (d .count) (eqb (d .key) keyP))
 
   keys-as : (id k : ℕ) → 0 < k → k ≤ n → otherKeyIn (keptOf s n .keys) id k ≡ otherKeyP s id k
   keys-as id zero a b = absurd (omega arith)
   keys-as id (suc i) a b = ap (λ (x : ℕ). eqb x keyP && not (eqb (suc i) id)) (key-at i (omega arith))
 
   id-as : (id : ℕ) → id ≤ n → idWrongIn (keptOf s n) n id ≡ (eqb id 0 || (not (idSound (column s id)) || ltb 0 (lowest (otherKeyP s id) n)))
-  unfolding idWrongIn
+  unfolding idWrongIn idWrongAt
   id-as zero h = refl
   id-as (suc i) h =
       let a : idLaid (getD (keptOf s n .cols) i blankColumn) (getD (keptOf s n .keys) i 0) ≡ idSound (column s (suc i)) =

@@ -88,7 +88,7 @@ gives-refusal r q t f a b z = rw (← b) (a ∙ sym (judged-refused q f z))
 gives-facts : (t : Refusal) (f g : Judged) → fine ≡ t → f ≡ g → f ≡ judged t g
 gives-facts t f g b e = rw (← b) e
 
--- ---- the names and `id` of at most 64 columns, each sound: `doubled` and `id` are what the code finds
+-- ---- the names and `id` of no more columns than the limit, each sound: `doubled` and `id` are what the code finds
 module _ (s : List ℕ) (n doubled id : ℕ) (kept : Kept) (K : kept ≡ keptOf s n) (Z : lowest (unsound s) n ≡ 0)
     (D : doubled ≡ lowest (namedBefore s) n) where
   pub kept-doubled : (f : Judged) (r : Judged) (q : Refusal) → (doubled ≡ 0 → ⊥) → r ≡ refusedWith q
@@ -123,7 +123,7 @@ module _ (s : List ℕ) (n doubled id : ℕ) (kept : Kept) (K : kept ≡ keptOf 
         gives-facts (firstOf (nameTests s n)) _ (acceptedOf order (length s) s n) (names-fine s n doubled D z (tested b t ∙ y))
         (λ u. record { refusal = e u; order = order; start = length s; columns = n; id = is-id u; kept = K u })
 
--- ---- what was gathered of the first 64 columns
+-- ---- what was gathered of the columns, up to the limit
 module _ (s : List ℕ) (n : ℕ) (kept : Kept) (m : ℕ) (M : m ≡ min n mostColumns) (e : kept ≡ gatheredOf s m) where
   limited : m ≤ n
   limited = rw M (min-le-left n mostColumns)
@@ -240,7 +240,7 @@ module _ (file : List ℕ) where
         facts-are = refl;
         fits = ltb-false (length file) (textLength file + 4) (refusal-passes _ 0 (length file) (t .1 .1 .0));
         short = let h = ltb-false mostText (textLength file) (refusal-passes _ 14 0 (t .1 .1 .1 .0)) in omega arith;
-        few = ltb-false mostColumns (columnCount file) (refusal-passes _ 4 65 (t .1 .1 .1 .1 .1 .1 .0));
+        few = ltb-false mostColumns (columnCount file) (refusal-passes _ 4 (mostColumns + 1) (t .1 .1 .1 .1 .1 .1 .0));
       }
 
   module _ (r : Judged) (e : r ≡ judgedFile file) where

@@ -10,13 +10,9 @@ use Rattle.limits.specs.Limits.{mostColumns}
 use Rattle.header.specs.declared.Definition.{Definition}
 use Rattle.header.specs.declared.ColumnLayout.{ColumnLayout}
 use Rattle.header.specs.Places.{definition, placeAfter}
-use Rattle.header.specs.Layouts.{varies, fieldSize, someVaries, bytesOfAll, columnLayout, blankColumn, laidOut}
+use Rattle.header.specs.Layouts.{varies, fieldSize, someVaries, bytesOfAll, columnLayout, blankColumn, fixedBytes, laidOut}
 use Rattle.header.specs.Serving.Stages.{laidAfter}
 use Rattle.header.proofs.PlaceLaws.{is-column}
-
-pub laid-size : (d : Definition) (bytes : ℕ) (l : ColumnLayout) → l ≡ laidAfter d bytes → l .size ≡ fieldSize d
-unfolding laidAfter
-laid-size d bytes l e = ap (λ (x : ColumnLayout). x .size) e
 
 -- `at` is the place after k definitions, d the definition read there, l its layout after the fixed bytes of the k columns
 module _ (s : List ℕ) (k at : ℕ) (d : Definition) (e : at ≡ placeAfter s k) (q : d ≡ definition s at) where
@@ -28,9 +24,9 @@ module _ (s : List ℕ) (k at : ℕ) (d : Definition) (e : at ≡ placeAfter s k
     unfolding laidAfter columnLayout
     is-layout = t ∙ ap (λ (x : ℕ). laidAfter d x) h ∙ ap (λ (x : Definition). laidAfter x (bytesOfAll s k)) (is-column s k at d e q)
 
-    pub bytes-next : bytes + l .size ≡ bytesOfAll s (k + 1)
-    unfolding laidAfter
-    bytes-next = rw (add-one k, ← h, ← is-column s k at d e q, t)
+    pub bytes-next : (size : ℕ) → size ≡ fixedBytes l → bytes + size ≡ bytesOfAll s (k + 1)
+    unfolding laidAfter fieldSize
+    bytes-next size p = rw (add-one k, ← h, ← is-column s k at d e q, p, t)
 
     pub cols-next : (cols : List ColumnLayout) → k < mostColumns → cols ≡ laidOut s k ++ replicate (mostColumns - k) blankColumn
         → set cols k l ≡ laidOut s (k + 1) ++ replicate (mostColumns - (k + 1)) blankColumn

@@ -19,21 +19,22 @@ use Rattle.grammar.specs.Words as words
 use Rattle.grammar.specs.Words.{star, Column, Reading, Numeral}
 use Rattle.field.specs.Letters.{letterK}
 use Rattle.field.specs.declared.FieldType.{FieldType}
-use Rattle.field.specs.declared.FieldType.the-variants.{Integer}
+use Rattle.field.specs.declared.FieldType.the-variants.{Integer, Triplet}
 use Rattle.field.specs.declared.Lookup.the-variants.{Is}
 use Rattle.field.specs.Fields.{letterOf, typeOf, widthOf, isTriplet}
 use Rattle.field.proofs.TableRule.{type-of-letter, letter-of-type}
 use Rattle.header.specs.declared.Definition.{Definition}
 use Rattle.header.specs.declared.ColumnLayout.{ColumnLayout}
 use Rattle.header.specs.declared.Layout.{Layout}
-use Rattle.header.specs.Places.{placeAfter, column}
+use Rattle.header.specs.Places.{decimal, placeAfter, column}
 use Rattle.header.specs.Names.{sameText}
 use Rattle.limits.specs.Limits.{mostColumns}
 use Rattle.header.specs.Judge.{orderOfFile, textLength, headOf, idName, idColumn}
-use Rattle.header.specs.Layouts.{kindOf, varies, fieldSize, someVaries, bytesOfAll, columnLayout, blankColumn, laidOut, rowWidth, layoutOf, blankLayout, headerOf}
+use Rattle.header.specs.Layouts.{kindOf, varies, countKept, fieldSize, someVaries, bytesOfAll, columnLayout, blankColumn, fixedBytes, laidOut, rowWidth}
+use Rattle.header.specs.Layouts.{layoutOf, blankLayout, headerOf}
 use Rattle.header.specs.Words.{columnAt, OrderIs, Shows, AcceptedHeader}
 use Rattle.header.specs.Refusals.{RefusedWith}
-use Rattle.header.specs.LayoutWords.{Varies, layoutAt, ColumnLaidOut, LaidOut}
+use Rattle.header.specs.LayoutWords.{Starred, Varies, layoutAt, ColumnLaidOut, LaidOut}
 use Rattle.header.proofs.ColumnsJudged.{numeral-not-star, shown, column-named}
 use Rattle.header.proofs.TestsInWords.{order-of-file, length-said}
 use Rattle.header.proofs.AcceptedExactly.{accepted-says}
@@ -63,13 +64,18 @@ module _ (s : List ℕ) (p : ℕ) (c : Column) (d : Definition) (w : Shows s p c
         ⊎-elim (λ q. absurd (true≢false (sym (w .star .1 q) ∙ b))) (triplet-exactly .1),
       )))
 
-  pub size-fixed : (Varies c → ⊥) → fieldSize d ≡ d .count * widthOf t
-  unfolding fieldSize
-  size-fixed f = bool-cases (varies d) (λ b. absurd (f (varies-exactly .0 b))) (λ b. rw (b, kind-is))
+  pub count-kept : (Starred c → ⊥) → countKept d ≡ d .count
+  count-kept f = bool-cases (d .star) (λ b. absurd (f (w .star .0 b))) (λ b. rw b)
 
-  pub size-varies : Varies c → fieldSize d ≡ 0
-  unfolding fieldSize
-  size-varies v = rw (varies-exactly .1 v)
+  -- a star's count is 0, and a triplet has no width
+  pub bytes-vary : Varies c → countKept d * widthOf t ≡ 0
+  bytes-vary =
+      ⊎-elim
+      (λ z. rw (w .star .1 z) (omega arith))
+      (λ z.
+      let q = sym e ∙ ap typeOf z ∙ type-of-letter Triplet in
+      let kind : t ≡ Triplet = cc in
+      rw kind (omega arith))
 
 -- ---- sums and lists over the columns
 
@@ -127,9 +133,9 @@ module _ (file : List ℕ) (h : Reading) (a : AcceptedHeader file h) where
       record {
         kind = e ∙ ap Is (sym q);
         star = w .star;
-        count = w .count;
-        fixed-size = λ f. rw q (size-fixed s p c d w t e f);
-        no-size = size-varies s p c d w t e;
+        count = λ v. count-kept s p c d w t e (λ z. numeral-not-star (subst Numeral z v)) ∙ w .count v;
+        no-count = λ z. rw (w .star .1 z);
+        no-bytes = λ v. rw q (bytes-vary s p c d w t e v);
       }
 
   varies-at : (k : ℕ) → In n k → (varies (column s k) ≡ true) ↔ Varies (columnAt h k)
@@ -155,12 +161,12 @@ module _ (file : List ℕ) (h : Reading) (a : AcceptedHeader file h) where
   at zero i = absurd (omega (arith, i .0))
   at (suc k) i = laid-at s n (replicate (mostColumns - n) blankColumn) k (omega (arith, i .1))
 
-  size-at : (k : ℕ) → In n k → fieldSize (column s k) ≡ layoutAt counted k .size
-  unfolding columnLayout
-  size-at k i = ap (λ (l : ColumnLayout). l .size) (sym (at k i))
+  size-at : (k : ℕ) → In n k → fieldSize (column s k) ≡ fixedBytes (layoutAt counted k)
+  unfolding columnLayout fieldSize
+  size-at k i = ap fixedBytes (sym (at k i))
 
-  bytes-are : (m : ℕ) → m ≤ n → bytesOfAll s m ≡ sum (λ k. layoutAt counted k .size) m
-  bytes-are m l = bytes-sum s m ∙ sum-ext (λ k. fieldSize (column s k)) (λ k. layoutAt counted k .size) m (λ k u v. size-at k (u, omega arith))
+  bytes-are : (m : ℕ) → m ≤ n → bytesOfAll s m ≡ sum (λ k. fixedBytes (layoutAt counted k)) m
+  bytes-are m l = bytes-sum s m ∙ sum-ext (λ k. fieldSize (column s k)) (λ k. fixedBytes (layoutAt counted k)) m (λ k u v. size-at k (u, omega arith))
 
   -- the `id` column is the one that the rules speak of
   id-found : (In n (idColumn s n)) × (idColumn s n ≡ a .rules .one-id .id)
@@ -173,13 +179,15 @@ module _ (file : List ℕ) (h : Reading) (a : AcceptedHeader file h) where
 
   -- its field has four bytes
   id-size : (k : ℕ) → In n k → columnAt h k .type ≡ 73 → columnAt h k .count ≡ 49 ∷ [] → fieldSize (column s k) ≡ 4
+  unfolding fieldSize
   id-size k i e q =
       let w = shown s h (head-reads file h a) k i in
       let v : Numeral (columnAt h k .count) = one-numeral (columnAt h k .count) q in
-      let fixed : Varies (columnAt h k) → ⊥ = ⊎-elim (λ z. numeral-not-star (subst Numeral z v))
-      (λ z. let y : _≡_ {A = ℕ} 73 75 = sym e ∙ z in omega arith) in
-      size-fixed s (placeAfter s (pred k)) (columnAt h k) (column s k) w Integer (ap typeOf e ∙ type-of-letter Integer) fixed
-      ∙ rw (w .count v, q)
+      let p = placeAfter s (pred k) in
+      let t = ap typeOf e ∙ type-of-letter Integer in
+      let one : countKept (column s k) ≡ 1 =
+      count-kept s p (columnAt h k) (column s k) w Integer t (λ z. numeral-not-star (subst Numeral z v)) ∙ w .count v ∙ ap (decimal 0) q in
+      rw (kind-is s p (columnAt h k) (column s k) w Integer t, one)
     where
       digit-one : (j : ℕ) → j < 1 → words.Digit (getD (49 ∷ []) j 0)
       digit-one zero l = (omega arith, omega arith)
@@ -213,7 +221,7 @@ module _ (file : List ℕ) (h : Reading) (a : AcceptedHeader file h) where
       no-varying : Each n (λ k. Varies (columnAt h k) → ⊥) → someVaries s n ≡ false
       no-varying f = none-varies s n (λ k i. bool-cases (varies (column s k)) (λ b. absurd (f k i (varies-at k i .0 b))) (λ b. b))
 
-      offset-at : (k : ℕ) → In n k → layoutAt counted k .offset ≡ sum (λ j. layoutAt counted j .size) (pred k)
+      offset-at : (k : ℕ) → In n k → layoutAt counted k .offset ≡ sum (λ j. fixedBytes (layoutAt counted j)) (pred k)
       offset-at k i = ap (λ (l : ColumnLayout). l .offset) (at k i) ∙ bytes-are (pred k) (omega (arith, i .1))
 
       id-bytes : 4 ≤ sum (λ k. fieldSize (column s k)) n

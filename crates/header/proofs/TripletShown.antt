@@ -63,7 +63,7 @@ module _ (file : List ℕ) where
         (w .column, i, letter-exactly (w .reading) (w .accepted) (w .column) i .1 (w .letter)),
   )
 
-  -- and so, as a search over at most 64 columns finds one
+  -- and so, as a search over no more columns than the limit finds one
   pub lowest-triplet-exactly : (0 < lowest isK (min (l .columns) mostColumns)) ↔ ShowsK file
   lowest-triplet-exactly = (
     λ p.

@@ -28,9 +28,13 @@ kindOf look.the-variants.Unlisted = Text
 unfoldable pub varies : Definition → Bool
 varies d = cond (d .star) true (isTriplet (kindOf (typeOf (d .kind))))
 
--- the bytes of a field of fixed width; 0 of the others
+-- the count of a definition, 0 for a `*`
+abbrev pub countKept : Definition → ℕ
+countKept d = cond (d .star) 0 (d .count)
+
+-- the bytes of a field of fixed width: so many elements of its type. It is 0 of the others, as a `*` has the count 0 and a triplet no width
 unfoldable pub fieldSize : Definition → ℕ
-fieldSize d = cond (varies d) 0 (d .count * widthOf (kindOf (typeOf (d .kind))))
+fieldSize d = countKept d * widthOf (kindOf (typeOf (d .kind)))
 
 -- one of the columns 1..n has no fixed width
 abbrev pub someVaries : List ℕ → ℕ → Bool
@@ -42,20 +46,23 @@ abbrev pub bytesOfAll : List ℕ → ℕ → ℕ
 bytesOfAll s zero = 0
 bytesOfAll s (suc k) = bytesOfAll s k + fieldSize (column s (suc k))
 
--- what a row needs of column k: its field's bytes where they are fixed, and the fixed bytes of the columns before it, which in a
--- row of fixed width is where it starts
+-- what a row needs of column k: its type and count, and the fixed bytes of the columns before it, which in a row of fixed width is
+-- where it starts
 unfoldable pub columnLayout : List ℕ → ℕ → ColumnLayout
 columnLayout s k =
     record {
       kind = kindOf (typeOf (column s k .kind));
       star = column s k .star;
-      count = column s k .count;
-      size = fieldSize (column s k);
+      count = countKept (column s k);
       offset = bytesOfAll s (pred k);
     }
 
 abbrev pub blankColumn : ColumnLayout
-blankColumn = record { kind = Text; star = false; count = 0; size = 0; offset = 0 }
+blankColumn = record { kind = Text; star = false; count = 0; offset = 0 }
+
+-- the bytes of a field of fixed width by what a row needs of its column; of those that a header gives, 0 of the others
+abbrev pub fixedBytes : ColumnLayout → ℕ
+fixedBytes c = c .count * widthOf (c .kind)
 
 -- the columns 1..n
 abbrev pub laidOut : List ℕ → ℕ → List ColumnLayout

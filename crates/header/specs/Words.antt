@@ -51,7 +51,7 @@ pub record OneId (h : words.Reading) : Type 0 where
   pub key-P : columnAt h id .key ≡ keyP
   pub no-other-P : (k : ℕ) → In (length (h .columns)) k → columnAt h k .key ≡ keyP → k ≡ id
 
--- the column rules, and the limit of 64
+-- the column rules, and the limit of columns
 pub record ColumnRules (h : words.Reading) : Type 0 where
   pub sound : (k : ℕ) → In (length (h .columns)) k → ColumnSound (columnAt h k)
   pub columns-limit : length (h .columns) ≤ mostColumns

@@ -1,7 +1,6 @@
 // The tests of a header in their order.
 use crate::ColumnLayout;
 use crate::Judged;
-use crate::Kept;
 use crate::layouts;
 use crate::naming;
 use crate::places;
@@ -31,7 +30,7 @@ ghost use Rattle.grammar.specs.Scan.{scanOf};
 ghost use Rattle.limits.specs.Limits.{mostColumns};
 ghost use Rattle.header.specs.Places.{placeAfter};
 ghost use Rattle.header.specs.Judge.{keyP};
-ghost use Rattle.header.specs.Serving.Stages.{mostHead, unsound, keptOf, idLaid, otherKeyIn, idWrongIn, nameTests, columnTests, acceptedOf};
+ghost use Rattle.header.specs.Serving.Stages.{mostHead, unsound, idLaid, otherKeyIn, idWrongAt, columnTests, acceptedOf};
 ghost use Rattle.header.specs.Serving.Stages.{refusedWith, judged, judgedText, judgedFile};
 
 // "with type I, count 1, key P"
@@ -76,17 +75,13 @@ fn key_elsewhere(keys: &[u8; MOST_COLUMNS], n: usize, id: usize) -> bool
     false
 }
 
-// Whether the `id` column or the key P rule is broken (6).
-fn id_wrong(kept: Kept, n: usize, id: usize) -> bool
-    requires { ⌜ (n ≤ mostColumns) × (id ≤ n) ⌝ }
-    ensures { λ r. ⌜ r ≡ idWrongIn kept n id ⌝ }
+// Whether the rule of the `id` column, which this one is, or of key P is broken (6).
+fn id_wrong(column: ColumnLayout, keys: &[u8; MOST_COLUMNS], n: usize, id: usize) -> bool
+    requires { ⌜ (n ≤ mostColumns) × (0 < id) × (id ≤ n) ⌝ }
+    ensures { λ r. ⌜ r ≡ idWrongAt column (now (keys .entry)) n id ⌝ }
 {
-    if id == 0 {
-        return true;
-    }
-    let keys = kept.keys;
-    if id_sound(kept.cols[id - 1], keys[id - 1]) {
-        key_elsewhere(&keys, n, id)
+    if id_sound(column, keys[id - 1]) {
+        key_elsewhere(keys, n, id)
     } else {
         true
     }
@@ -107,34 +102,7 @@ fn refused(q: Refusal) -> Judged
     }
 }
 
-// 5 for a name, then 6: of at most 64 columns, each sound.
-fn judge_kept(head: &[u8], order: Order, n: usize, kept: Kept) -> Judged
-    requires { ⌜ (n ≤ mostColumns) × (kept ≡ keptOf (now head) n) × (lowest (unsound (now head)) n ≡ 0) ⌝ }
-    ensures { λ r. ⌜ r ≡ judged (firstOf (nameTests (now (head .entry)) n)) (acceptedOf order (length (now (head .entry))) (now (head .entry)) n) ⌝ }
-{
-    let names = kept.names;
-    let starts = names.starts;
-    let ends = names.ends;
-    let doubled = naming::doubled_name(head, &starts, &ends, n);
-    if doubled != 0 {
-        return refused(refusal::refuse(WRONG_COLUMNS, doubled));
-    }
-    let id = naming::column_by_name(head, &starts, &ends, n, b"id");
-    if id_wrong(kept, n, id) {
-        return refused(refusal::refuse(WRONG_KEY, 0));
-    }
-    let none = refusal::no_refusal();
-    Judged {
-        refusal: none,
-        order: order,
-        start: head.len(),
-        columns: n,
-        id: id,
-        kept: kept,
-    }
-}
-
-// 4 at the lowest column past the 64th that has a wrong type, key or count, else 5 at the 65th: nothing is kept of these.
+// 4 at the lowest column past the limit that has a wrong type, key or count, else 5 at the first past it: nothing is kept of these.
 fn judge_past(head: &[u8], after: usize, n: usize) -> Refusal
     requires { ⌜ (length (now head) ≤ mostHead) × (mostColumns < n) ⌝ }
     requires { ⌜ (after ≡ placeAfter (now head) mostColumns) × (lowest (unsound (now head)) mostColumns ≡ 0) ⌝ }
@@ -155,7 +123,8 @@ fn judge_past(head: &[u8], after: usize, n: usize) -> Refusal
     refusal::refuse(WRONG_COLUMNS, MOST_COLUMNS + 1)
 }
 
-// 4, 5 for more than 64 columns, then the names.
+// 4, 5 for more columns than the limit, 5 for a name, then 6. What is kept has more than a kilobyte, so that it is given on once, at the
+// end, and to no other function.
 fn judge_columns(head: &[u8], order: Order, n: usize) -> Judged
     requires { ⌜ length (now head) ≤ mostHead ⌝ }
     ensures { λ r. ⌜ r ≡ judged (firstOf (columnTests (now (head .entry)) n)) (acceptedOf order (length (now (head .entry))) (now (head .entry)) n) ⌝ }
@@ -167,7 +136,30 @@ fn judge_columns(head: &[u8], order: Order, n: usize) -> Judged
     if MOST_COLUMNS < n {
         return refused(judge_past(head, kept.after, n));
     }
-    judge_kept(head, order, n, kept)
+    let names = kept.names;
+    let starts = names.starts;
+    let ends = names.ends;
+    let doubled = naming::doubled_name(head, &starts, &ends, n);
+    if doubled != 0 {
+        return refused(refusal::refuse(WRONG_COLUMNS, doubled));
+    }
+    let id = naming::column_by_name(head, &starts, &ends, n, b"id");
+    if id == 0 {
+        return refused(refusal::refuse(WRONG_KEY, 0));
+    }
+    let keys = kept.keys;
+    if id_wrong(kept.cols[id - 1], &keys, n, id) {
+        return refused(refusal::refuse(WRONG_KEY, 0));
+    }
+    let none = refusal::no_refusal();
+    Judged {
+        refusal: none,
+        order: order,
+        start: head.len(),
+        columns: n,
+        id: id,
+        kept: kept,
+    }
 }
 
 // 3, then the columns.

@@ -2,20 +2,19 @@
 use crate::ColumnLayout;
 use crate::Definition;
 use crate::Kept;
-use crate::Names;
 use crate::places;
 use field::FieldType;
 use field::Lookup;
 use limits::MOST_COLUMNS;
 ghost use mathlib.Core.Path.{_≡_};
 ghost use mathlib.Core.Bool.{cond, true};
-ghost use Prim.Native.Nat.{_*_, _≤_};
+ghost use Prim.Native.Nat.{_≤_};
 ghost use lib.ListN.{length};
 ghost use Rattle.limits.specs.Limits.{mostColumns};
-ghost use Rattle.field.specs.Fields.{typeOf, widest};
+ghost use Rattle.field.specs.Fields.{typeOf};
 ghost use Rattle.header.specs.Judge.{keyListed, sound};
-ghost use Rattle.header.specs.Layouts.{kindOf, varies, fieldSize, blankColumn};
-ghost use Rattle.header.specs.Serving.Stages.{mostHead, greatestCount, laidAfter, noneKept, gatheredOf};
+ghost use Rattle.header.specs.Layouts.{kindOf, varies, countKept, blankColumn};
+ghost use Rattle.header.specs.Serving.Stages.{mostHead, laidAfter, noneKept, gatheredOf};
 
 // The type of a letter; text where it is not listed.
 fn kind_of(letter: u8) -> FieldType
@@ -37,31 +36,28 @@ fn is_varying(d: Definition) -> bool
     kind_of(d.kind).is_triplet()
 }
 
-// The bytes of a field of fixed width, 0 of the others.
-fn size_of(d: Definition) -> u32
-    requires { ⌜ d .count ≤ greatestCount ⌝ }
-    ensures { λ r. ⌜ r ≡ fieldSize d ⌝ }
-    ensures { λ r. ⌜ r ≤ d .count * widest ⌝ }
+// The count of a sound definition, 0 for a star. No other count has more than sixteen bits.
+fn count_kept(d: Definition) -> u16
+    requires { ⌜ sound d ≡ true ⌝ }
+    ensures { λ r. ⌜ r ≡ countKept d ⌝ }
 {
-    if is_varying(d) {
+    if d.star {
         return 0;
     }
-    d.count * (kind_of(d.kind).width() as u32)
+    d.count as u16
 }
 
 // What a row needs of a column.
 fn lay_column(d: Definition, offset: u32) -> ColumnLayout
-    requires { ⌜ d .count ≤ greatestCount ⌝ }
+    requires { ⌜ sound d ≡ true ⌝ }
     ensures { λ r. ⌜ r ≡ laidAfter d offset ⌝ }
-    ensures { λ r. ⌜ r .size ≤ d .count * widest ⌝ }
 {
     let kind = kind_of(d.kind);
-    let size = size_of(d);
+    let count = count_kept(d);
     ColumnLayout {
         kind: kind,
         star: d.star,
-        count: d.count,
-        size: size,
+        count: count,
         offset: offset,
     }
 }
@@ -74,7 +70,6 @@ pub(crate) fn blank_column() -> ColumnLayout
         kind: FieldType::Text,
         star: false,
         count: 0,
-        size: 0,
         offset: 0,
     }
 }
@@ -140,15 +135,14 @@ pub(crate) fn none_kept(wrong: usize) -> Kept
     }
 }
 
-// One pass over at most 64 definitions: the lowest column that has a wrong type, key or count, or what is kept of the columns.
+// One pass over no more definitions than the limit: the lowest column that has a wrong type, key or count, or what is kept of the columns.
 pub(crate) fn gather(head: &[u8], n: usize) -> Kept
     requires { ⌜ (length (now head) ≤ mostHead) × (n ≤ mostColumns) ⌝ }
     ensures { λ r. ⌜ r ≡ gatheredOf (now (head .entry)) n ⌝ }
 {
     let blank = blank_column();
     let mut cols = [blank; MOST_COLUMNS];
-    let mut starts = [0u16; MOST_COLUMNS];
-    let mut ends = [0u16; MOST_COLUMNS];
+    let mut names = crate::no_names();
     let mut keys = [0u8; MOST_COLUMNS];
     let first = places::first_definition(head);
     let mut at = first;
@@ -160,11 +154,11 @@ pub(crate) fn gather(head: &[u8], n: usize) -> Kept
         if is_sound(d) {
             let column = lay_column(d, bytes);
             let name = d.name;
-            starts[k] = name.start as u16;
-            ends[k] = name.end as u16;
+            names.starts[k] = name.start as u16;
+            names.ends[k] = name.end as u16;
             keys[k] = d.key;
             cols[k] = column;
-            bytes = bytes + column.size;
+            bytes = bytes + crate::fixed_bytes(column);
             varying = either_varies(varying, d);
             at = d.after;
             k += 1;
@@ -173,10 +167,6 @@ pub(crate) fn gather(head: &[u8], n: usize) -> Kept
         }
     }
     let width = width_of(varying, bytes);
-    let names = Names {
-        starts: starts,
-        ends: ends,
-    };
     Kept {
         wrong: 0,
         names: names,

@@ -11,9 +11,10 @@ use limits::MOST_COLUMNS;
 use number::Order;
 use refusal::Refusal;
 ghost use mathlib.Core.Path.{_≡_};
-ghost use Prim.Native.Nat.{_<_};
+ghost use Prim.Native.Nat.{_*_, _<_, _≤_};
+ghost use Rattle.field.specs.Fields.{widest, mostCount};
 ghost use Rattle.header.specs.Names.{noNames, columnAmong};
-ghost use Rattle.header.specs.Layouts.{blankLayout, headerOf};
+ghost use Rattle.header.specs.Layouts.{fixedBytes, blankLayout, headerOf};
 ghost use Rattle.header.specs.Steps.{stepOf, startOf, columnOf};
 ghost use Rattle.header.specs.Serving.Stages.{handedOn};
 ghost use Rattle.header.specs.declared.Answer.the-variants as answers;
@@ -43,13 +44,12 @@ pub enum Answer {
     Refused(Refusal),
 }
 
-// What a row needs of a column: its type and count, the bytes of its field where these are fixed (else 0), and the fixed bytes
-// of the columns before it: where it starts in a row of fixed width.
+// What a row needs of a column: its type and count (0 for a star), and the fixed bytes of the columns before it: where it starts in a
+// row of fixed width. It has eight bytes, so that a layout of all columns, which travels by value, has one kilobyte.
 pub struct ColumnLayout {
     pub kind: FieldType,
     pub star: bool,
-    pub count: u32,
-    pub size: u32,
+    pub count: u16,
     pub offset: u32,
 }
 
@@ -83,8 +83,9 @@ pub enum Step {
     Refused(Refusal),
 }
 
-// What one pass over at most 64 definitions keeps: the lowest column that has a wrong type, key or count; where there is none, 0, and
-// the names, the keys, the layouts and the width of every row, or 0; where the first definition starts, and the place after the last.
+// What one pass over no more definitions than the limit keeps: the lowest column that has a wrong type, key or count; where there is
+// none, 0, and the names, the keys, the layouts and the width of every row, or 0; where the first definition starts, and the place
+// after the last.
 struct Kept {
     wrong: usize,
     names: Names,
@@ -104,6 +105,17 @@ struct Judged {
     columns: usize,
     id: usize,
     kept: Kept,
+}
+
+// Count times width: the bytes of a field of fixed width; of a column that a header gives, 0 of the others, since a star's count is 0 and a
+// triplet has no width. A count has sixteen bits, and so they have a bound.
+// Example: a column of type Y and count 65,535 has 1,572,840 bytes, and none has more.
+pub fn fixed_bytes(column: ColumnLayout) -> u32
+    ensures { λ r. ⌜ r ≡ fixedBytes column ⌝ }
+    ensures { λ r. ⌜ r ≤ mostCount * widest ⌝ }
+{
+    let kind = column.kind;
+    column.count as u32 * kind.width() as u32
 }
 
 // What stands in the place of a layout where the header is refused.
@@ -221,7 +233,7 @@ pub fn find_column(file: &[u8], name: &[u8]) -> usize
     column_among(file, kept.names, judged.columns, name)
 }
 
-// The column of a name in either case among the names of so many columns, at most 64, that lie in the file; 0 where there is none.
+// The column of a name in either case among the names of so many columns, up to the limit, that lie in the file; 0 where there is none.
 // Over what `read_header` gives of a file it is what `find_column` gives, and judges nothing anew.
 pub fn column_among(file: &[u8], names: Names, columns: usize, name: &[u8]) -> usize
     ensures { λ r. ⌜ r ≡ columnAmong (now (file .entry)) names columns (now (name .entry)) ⌝ }

@@ -5,7 +5,7 @@ ghost use mathlib.Core.Path.{_≡_};
 ghost use Prim.Native.Nat.{_+_, _-_, _≤_};
 ghost use lib.ListN.{length, getD, take, drop};
 ghost use Rattle.header.specs.Places.{seek, mostDigits, decimal, countOf, definition, firstPlace};
-ghost use Rattle.header.specs.Serving.Stages.{mostHead, greatestCount};
+ghost use Rattle.header.specs.Serving.Stages.{mostHead};
 
 // "1 to 5 digits"
 const MOST_DIGITS: usize = 5;
@@ -47,7 +47,6 @@ fn digit_of(byte: u8) -> u32
 fn number_from(head: &[u8], p: usize, e: usize) -> u32
     requires { ⌜ (e ≤ length (now head)) × (e ≤ p + mostDigits) ⌝ }
     ensures { λ r. ⌜ r ≡ decimal 0 (take (e - p) (drop p (now (head .entry)))) ⌝ }
-    ensures { λ r. ⌜ r ≤ greatestCount ⌝ }
 {
     let mut value: u32 = 0;
     let mut i = p;
@@ -62,7 +61,6 @@ fn number_from(head: &[u8], p: usize, e: usize) -> u32
 fn count_of(head: &[u8], p: usize, e: usize) -> u32
     requires { ⌜ (e ≤ length (now head)) × (p ≤ mostHead + 3) ⌝ }
     ensures { λ r. ⌜ r ≡ countOf (now (head .entry)) p e ⌝ }
-    ensures { λ r. ⌜ r ≤ greatestCount ⌝ }
 {
     if p + MOST_DIGITS < e {
         return number_from(head, p, p + MOST_DIGITS);
@@ -75,7 +73,6 @@ fn count_of(head: &[u8], p: usize, e: usize) -> u32
 pub(crate) fn definition_at(head: &[u8], p: usize) -> Definition
     requires { ⌜ length (now head) ≤ mostHead ⌝ }
     ensures { λ r. ⌜ r ≡ definition (now (head .entry)) p ⌝ }
-    ensures { λ r. ⌜ r .count ≤ greatestCount ⌝ }
 {
     let name_end = seek_byte(head, p, b'=');
     let count_end = seek_byte(head, name_end + 3, b',');

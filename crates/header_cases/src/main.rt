@@ -2,7 +2,6 @@
 // what rows need of it, and each step through its columns; then a step at the place where these ended, another at a place that
 // the case names, and where a column name that it gives is found. A case is a field of four fields: the label, the table file,
 // the place (8 bytes) and the name.
-ghost use Prim.Native.Nat.{_≤_};
 use casefile::say;
 use casefile::say_number;
 use casefile::say_part;
@@ -12,7 +11,6 @@ use header::ColumnLayout;
 use header::Definition;
 use header::Layout;
 use header::Step;
-use limits::MOST_COLUMNS;
 use number::Order;
 
 fn say_letter(b: u8) {
@@ -78,9 +76,9 @@ fn say_column(c: ColumnLayout) {
     let kind = c.kind;
     say_letter(kind.letter());
     say(b",");
-    say_count(c.star, c.count);
+    say_count(c.star, c.count as u32);
     say(b" bytes ");
-    say_number(c.size as u64);
+    say_number(header::fixed_bytes(c) as u64);
     say(b" after ");
     say_number(c.offset as u64);
     say(b"\n");
@@ -107,20 +105,10 @@ fn say_layout(layout: Layout) {
     say(b"\n");
 }
 
-fn within(count: usize) -> usize
-    ensures { λ r. ⌜ r ≤ 64 ⌝ }
-{
-    if count < MOST_COLUMNS {
-        count
-    } else {
-        MOST_COLUMNS
-    }
-}
-
 // The layouts of the columns that the header has.
 fn say_columns(layout: Layout) {
     let cols = layout.cols;
-    let count = within(layout.columns);
+    let count = limits::columns_within(layout.columns);
     let mut i = 0;
     while i < count {
         let c = cols[i];

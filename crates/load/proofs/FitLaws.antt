@@ -14,7 +14,7 @@ use Rattle.load.specs.Sources.{tableAt}
 use Rattle.load.specs.declared.Finding.{Finding}
 use Rattle.load.specs.Load.{finding, noFinding, foundAt, roomNeeded}
 
--- a column that the layout has is one of 64
+-- a column that the layout has is within the limit
 pub in-layout : (l : Layout) (c : ℕ) (b : Bool) → b ≡ noSuchColumn l c → b ≡ false → (0 < c) × (c ≤ mostColumns)
 in-layout l c b e n = column-there l c (sym e ∙ n)
 

@@ -18,10 +18,10 @@ ghost use Rattle.header.specs.declared.Answer.the-variants as answer;
 ghost use Rattle.header.specs.Names.{noNames};
 ghost use Rattle.limits.specs.Limits.{mostRows};
 ghost use Rattle.opening.specs.Opening.{needsIndex, entryEnd, entryWrong, sizeWrong, headWrong, indexRefusal, fixedRefusal};
-ghost use Rattle.opening.specs.Opening.{rowsSaid, bodyRefusal, openRefusal, tableFrom, noTable, openedAs, openedOf};
+ghost use Rattle.opening.specs.Opening.{rowsSaid, bodyRefusal, openRefusal, noTable, openedOf};
 
 // An opened table: what its header says of the rows, and how many there are. Whoever has one may lend it with any file: rows past
-// the millionth and columns past the 64th are not there.
+// the millionth and columns past the limit are not there.
 pub struct Table {
     pub layout: Layout,
     pub rows: usize,
@@ -207,16 +207,23 @@ fn not_opened(q: Refusal) -> Opened
     }
 }
 
-// A table whose header is accepted.
-fn open_body(index: &[u8], layout: Layout, names: Names, size: usize, most: usize) -> Opened
-    ensures { λ r. ⌜ r ≡ openedAs (openRefusal layout (now (index .entry)) size most) (tableFrom layout (now (index .entry)) size) names ⌝ }
+// Opens a table with its lent index, for a caller that takes at most so many rows, and never over 1,000,000.
+pub fn open_within(file: &[u8], index: &[u8], most: usize) -> Opened
+    ensures { λ r. ⌜ r ≡ openedOf (now (file .entry)) (now (index .entry)) most ⌝ }
 {
-    let judged = judge_opening(index, layout, size, most);
+    let head = header::read_header(file);
+    let answer = head.answer;
+    match answer {
+        Answer::Accepted => {}
+        Answer::Refused(q) => return not_opened(q),
+    }
+    let layout = head.layout;
+    let judged = judge_opening(index, layout, file.len(), most);
     if judged.number != 0 {
         return not_opened(judged);
     }
-    let rows = count_rows(index, layout, size);
-    let answer = Answer::Accepted;
+    let rows = count_rows(index, layout, file.len());
+    let names = head.names;
     let table = Table {
         layout: layout,
         rows: rows,
@@ -225,24 +232,6 @@ fn open_body(index: &[u8], layout: Layout, names: Names, size: usize, most: usiz
         answer: answer,
         table: table,
         names: names,
-    }
-}
-
-// Opens a table with its lent index, for a caller that takes at most so many rows, and never over 1,000,000.
-pub fn open_within(file: &[u8], index: &[u8], most: usize) -> Opened
-    ensures { λ r. ⌜ r ≡ openedOf (now (file .entry)) (now (index .entry)) most ⌝ }
-{
-    let head = header::read_header(file);
-    let answer = head.answer;
-    match answer {
-        Answer::Accepted => {
-            let layout = head.layout;
-            let names = head.names;
-            return open_body(index, layout, names, file.len(), most);
-        }
-        Answer::Refused(q) => {
-            return not_opened(q);
-        }
     }
 }
 

@@ -1,8 +1,6 @@
 -- THE COORDINATES OF A RECTANGLE ARE ALL THAT THE FIELD HAS: in a right row of an opened table they are as many as the `*` field's count
 -- says, or the column's, so that no coordinate is left out and nothing else is read as one.
 use mathlib.Core.Path.{_≡_, refl, sym, ap, subst, _∙_}
-use mathlib.Core.Logic.{⊎-elim}
-use mathlib.Core.Bool.{false}
 use mathlib.Core.List.{List}
 use Prim.Native.Nat.{ℕ, _*_, _≤_}
 use native.Mathlib.Omega.{arith}
@@ -10,26 +8,22 @@ use lib.Ieee.{Format, binary32, binary64}
 use lib.ListN.{length, drop, length-take, length-drop}
 use Rattle.laws.specs.Lowest.{In}
 use Rattle.laws.proofs.LowestLaws.{bool-cases}
-use Rattle.laws.proofs.TestLaws.{clash}
 use Rattle.number.specs.declared.Order.{Order}
 use Rattle.grammar.specs.Words.{Reading}
 use Rattle.field.specs.declared.FieldType.{FieldType}
-use Rattle.field.specs.Letters.{letterK}
-use Rattle.field.specs.Fields.{letterOf, widthOf}
-use Rattle.field.proofs.TableRule.{letter-of-type}
+use Rattle.field.specs.Fields.{widthOf}
 use Rattle.bounds.specs.declared.Parts.{Parts}
 use Rattle.bounds.specs.declared.Parts.the-variants.{Two, Three}
 use Rattle.bounds.specs.Bounds.{partCount, partBytes, count}
 use Rattle.bounds.proofs.ReadLaws.{count-exact}
 use Rattle.header.specs.declared.ColumnLayout.{ColumnLayout}
-use Rattle.header.specs.Words as read
 use Rattle.table.specs.declared.Value.{Value}
 use Rattle.table.specs.declared.Value.the-variants as value
 use Rattle.table.specs.Rows.{columnAt, columnPlace}
 use Rattle.table.specs.Values.{elementsStart, elementsBytes, shown, valueOf, partOf}
 use Rattle.opening.specs.Words.{Opens}
 use Rattle.table.specs.Words.{RowRight, PartInside}
-use Rattle.table.proofs.RowExactly.{means, inside-file}
+use Rattle.table.proofs.RowExactly.{inside-file}
 use Rattle.table.specs.Serving.OpenedRows.{OpenedRow, openedRow}
 use Rattle.table.proofs.ValueOfRow.{value-of-row, value-inside}
 use Rattle.rectangle.specs.Words.{typeWith, coordinatesSaid, line}
@@ -40,12 +34,6 @@ width-with binary32 Two = refl
 width-with binary32 Three = refl
 width-with binary64 Two = refl
 width-with binary64 Three = refl
-
-not-triplet : (f : Format) (p : Parts) → letterOf (typeWith f p) ≡ letterK → ⊥
-not-triplet binary32 Two e = omega (arith, e)
-not-triplet binary32 Three e = omega (arith, e)
-not-triplet binary64 Two e = omega (arith, e)
-not-triplet binary64 Three e = omega (arith, e)
 
 coordinates-shown : (f : Format) (p : Parts) (o : Order) (s : List ℕ) (c : ColumnLayout) (at end : ℕ) → c .kind ≡ typeWith f p
     → shown o s c at end ≡ value.Coordinates (elementsStart c at end) (elementsBytes o s c at)
@@ -82,16 +70,8 @@ module _ (file index : List ℕ) (most : ℕ) (h : Reading) (n : ℕ) (o : Opens
         ∙ coordinates-shown f p (l .order) file (columnAt l k) at end e
 
     -- the bytes are those of so many coordinates
-    fixed-bytes : columnAt l k .star ≡ false → columnAt l k .size ≡ columnAt l k .count * widthOf (columnAt l k .kind)
-    fixed-bytes b =
-        let w = means file index most h n o .each k c in
-        w .fixed-size
-        (⊎-elim
-        (λ z. clash (cc (b, w .star .1 z)))
-        (λ z. not-triplet f p (ap letterOf (sym e) ∙ letter-of-type (read.columnAt h k .type) (columnAt l k .kind) (w .kind) ∙ z)))
-
     bytes-are : elementsBytes (l .order) file (columnAt l k) at ≡ said * widthOf (columnAt l k .kind)
-    bytes-are = bool-cases (columnAt l k .star) (λ b. rw b) (λ b. rw (b, fixed-bytes b))
+    bytes-are = bool-cases (columnAt l k .star) (λ b. rw b) (λ b. rw b)
 
     -- THE COORDINATES are as many as the field says
     pub coordinates-counted : count (line file index opened i k f p) ≡ said

@@ -16,7 +16,7 @@ pub const NOT_IN_GRAMMAR: u32 = 3;
 // "unlisted type or key, or count wrong for the type"
 pub const WRONG_DEFINITION: u32 = 4;
 
-// "more than 64 columns .., else same name"
+// "more than 128 columns .., else same name" (document 02, No. 6)
 pub const WRONG_COLUMNS: u32 = 5;
 
 // "id column or key P rule broken"

@@ -1,11 +1,11 @@
 -- The bytes of a field whose count must be 1: those of its type, and so within its row.
 use mathlib.Core.Path.{_≡_, sym, ap, subst, _∙_}
-use mathlib.Core.Logic.{inl, ⊎-elim}
+use mathlib.Core.Logic.{⊎-elim}
 use mathlib.Core.Bool.{true, false, true≢false}
 use mathlib.Core.List.{List}
 use Prim.Native.Nat.{ℕ, _+_, _*_, _≤_}
 use native.Mathlib.Omega.{arith}
-use borrow.Author.Tests.{eq-eqb, eqb-true}
+use borrow.Author.Tests.{eqb-true}
 use Rattle.laws.specs.Lowest.{In}
 use Rattle.laws.proofs.LowestLaws.{bool-cases}
 use Rattle.number.specs.declared.Order.{Order}
@@ -14,39 +14,35 @@ use Rattle.grammar.specs.Words as words
 use Rattle.grammar.specs.Words.{Reading, Numeral}
 use Rattle.field.specs.declared.FieldType.{FieldType}
 use Rattle.field.specs.declared.FieldType.the-variants as type
-use Rattle.field.specs.Letters.{letterK}
-use Rattle.field.specs.Fields.{letterOf, typeOf, widthOf, starOf, countRight}
-use Rattle.field.proofs.TableRule.{type-of-letter, letter-of-type}
+use Rattle.field.specs.Fields.{typeOf, widthOf, starOf, countRight}
+use Rattle.field.proofs.TableRule.{type-of-letter}
 use Rattle.header.specs.declared.ColumnLayout.{ColumnLayout}
 use Rattle.header.specs.declared.Layout.{Layout}
 use Rattle.header.specs.Places.{decimal}
 use Rattle.header.specs.Words.{columnAt, ColumnSound, AcceptedHeader}
-use Rattle.header.specs.LayoutWords.{Varies, layoutAt, ColumnLaidOut}
+use Rattle.header.specs.Layouts.{fixedBytes}
+use Rattle.header.specs.LayoutWords.{layoutAt, ColumnLaidOut}
 use Rattle.header.proofs.ColumnsJudged.{numeral-not-star}
 use Rattle.header.proofs.LayoutMeans.{laid-out}
 use Rattle.opening.specs.Words.{layoutOf}
 use Rattle.table.specs.Words.{FieldEnds}
 use Rattle.opening.proofs.RowWidth.{in-reading}
-use Rattle.table.proofs.FieldExactly.{triplet-kind}
 
 -- a column of this type has the count 1, and so the bytes of one element
 abbrev pub OneElement : ColumnLayout → Type 0
-OneElement c = starOf (c .kind) ≡ false → (c .kind ≡ type.Triplet → ⊥) → (c .star ≡ false) × (c .size ≡ widthOf (c .kind))
+OneElement c = starOf (c .kind) ≡ false → (c .star ≡ false) × (fixedBytes c ≡ widthOf (c .kind))
 
 pub one-element : (c : words.Column) (x : ColumnLayout) → ColumnSound c → ColumnLaidOut c x → OneElement x
 unfolding countRight
-one-element c x sound laid none kind =
+one-element c x sound laid none =
     let q = sym (sound .listed) ∙ laid .kind in
     let same : sound .kind ≡ x .kind = cc in
     ⊎-elim
     (λ w. absurd (true≢false (sym (w .1) ∙ ap starOf same ∙ none)))
     (λ w.
-    let one : decimal 0 (c .count) ≡ 1 = eqb-true (decimal 0 (c .count)) 1 (rw (ap starOf same ∙ none) at (w .1)) in
-    let fixed : Varies c → ⊥ =
-    ⊎-elim (λ e. numeral-not-star (subst Numeral e (w .0)))
-    (λ e. kind (triplet-kind (x .kind) .0 (eq-eqb (letterOf (x .kind)) letterK (letter-of-type (c .type) (x .kind) (laid .kind) ∙ e)))) in (
-      bool-cases (x .star) (λ b. absurd (fixed (inl (laid .star .0 b)))) (λ b. b),
-      laid .fixed-size fixed ∙ ap (λ (n : ℕ). n * widthOf (x .kind)) (laid .count (w .0) ∙ one) ∙ omega arith,
+    let one : decimal 0 (c .count) ≡ 1 = eqb-true (decimal 0 (c .count)) 1 (rw (ap starOf same ∙ none) at (w .1)) in (
+      bool-cases (x .star) (λ b. absurd (numeral-not-star (subst Numeral (laid .star .0 b) (w .0)))) (λ b. b),
+      ap (λ (n : ℕ). n * widthOf (x .kind)) (laid .count (w .0) ∙ one) ∙ omega arith,
     ))
     (sound .count)
 
@@ -75,7 +71,7 @@ module _ (o : Order) (s : List ℕ) (end : ℕ) (c : ColumnLayout) (at p : ℕ) 
   -- a type with one element
   pub element-room : OneElement c → (t : FieldType) → c .kind ≡ t → starOf t ≡ false → (t ≡ type.Triplet → ⊥) → at + widthOf t ≤ end
   element-room one t e none kind =
-      let w = one (ap starOf e ∙ none) (λ z. kind (sym e ∙ z)) in
+      let w = one (ap starOf e ∙ none) in
       ⊎-elim (λ x. absurd (kind (sym e ∙ x .kind)))
       (⊎-elim (λ x. absurd (true≢false (sym (x .star) ∙ w .0))) (λ x. omega (arith, x .ends, x .inside, w .1, ap widthOf e)))
       f
@@ -87,7 +83,7 @@ module _ (o : Order) (s : List ℕ) (end : ℕ) (c : ColumnLayout) (at p : ℕ) 
       (⊎-elim (λ x. omega (arith, x .ends, x .inside)) (λ x. absurd (true≢false (sym b ∙ x .no-star))))
       f
 
-  pub fixed-room : c .star ≡ false → (c .kind ≡ type.Triplet → ⊥) → at + c .size ≤ end
+  pub fixed-room : c .star ≡ false → (c .kind ≡ type.Triplet → ⊥) → at + fixedBytes c ≤ end
   fixed-room b kind =
       ⊎-elim (λ x. absurd (kind (x .kind)))
       (⊎-elim (λ x. absurd (true≢false (sym (x .star) ∙ b))) (λ x. omega (arith, x .ends, x .inside)))

@@ -27,6 +27,7 @@ use Rattle.triplet.specs.Triplet.{tripletOf}
 use Rattle.triplet.specs.Words.{BeginsWith}
 use Rattle.triplet.proofs.ReadExactly.{read-exactly}
 use Rattle.header.specs.declared.ColumnLayout.{ColumnLayout}
+use Rattle.header.specs.Layouts.{fixedBytes}
 use Rattle.header.specs.declared.Layout.{Layout}
 use Rattle.header.specs.LayoutWords.{layoutAt}
 use Rattle.table.specs.declared.Reach.{Reach}
@@ -103,8 +104,8 @@ field-exactly o s end c at p h =
       ⊎-elim (λ f. absurd (k (f .kind))) (⊎-elim (λ f. w .1 (f .ends, f .inside)) (λ f. absurd (true≢false (sym b ∙ f .no-star)))),
     ))
     (λ b.
-    let w = plain-exactly at end (c .size) p h in
-    same-end (fieldEnd o s end c at) (plainEnd at end (c .size)) p (rw (t, b)) (
+    let w = plain-exactly at end (fixedBytes c) p h in
+    same-end (fieldEnd o s end c at) (plainEnd at end (fixedBytes c)) p (rw (t, b)) (
       λ e. let f = w .0 e in inr (inr (record { kind = k; no-star = b; ends = f .0; inside = f .1 })),
       ⊎-elim (λ f. absurd (k (f .kind))) (⊎-elim (λ f. absurd (true≢false (sym (f .star) ∙ b))) (λ f. w .1 (f .ends, f .inside))),
     )))

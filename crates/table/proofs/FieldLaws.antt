@@ -20,6 +20,7 @@ use Rattle.triplet.specs.declared.Triplet.the-variants as triplet
 use Rattle.triplet.specs.Triplet.{tripletOf}
 use Rattle.triplet.proofs.OnlyItsBytes.{within}
 use Rattle.header.specs.declared.ColumnLayout.{ColumnLayout}
+use Rattle.header.specs.Layouts.{fixedBytes}
 use Rattle.table.specs.declared.Reach.the-variants.{At, Short}
 use Rattle.limits.specs.Limits.{mostRows}
 use Rattle.table.specs.Rows.{plainEnd, starEnd, pastTriplet, tripletEnd, fieldEnd}
@@ -110,7 +111,7 @@ module _ (o : Order) (s : List ℕ) (end at : ℕ) where
       (λ t. rw t triplet-code)
       (λ t. bool-cases (c .star)
       (λ u. rw (t, u) (star-code (widthOf (c .kind)) (width-small (c .kind))))
-      (λ u. rw (t, u) (fixed-code (c .size))))
+      (λ u. rw (t, u) (fixed-code (fixedBytes c))))
 
 -- a field ends within its row
 pub code-within : (o : Order) (s : List ℕ) (end code at p : ℕ) → at ≤ end → end ≤ length s → codeEnd o s end code at ≡ At p → p ≤ end

@@ -23,6 +23,7 @@ use Rattle.field.specs.Fields.{letterOf}
 use Rattle.field.specs.declared.FieldType.the-variants as type
 use Rattle.field.proofs.TableRule.{letter-of-type}
 use Rattle.header.specs.declared.Layout.{Layout}
+use Rattle.header.specs.Layouts.{fixedBytes}
 use Rattle.header.specs.Words as read
 use Rattle.header.specs.LayoutWords.{layoutAt, LaidOut}
 use Rattle.header.proofs.LayoutMeans.{laid-out}
@@ -69,7 +70,7 @@ module _ (file index : List ℕ) (most : ℕ) (h : Reading) (n : ℕ) (o : Opens
   l = layoutOf file
 
   abbrev sizes : ℕ → ℕ
-  sizes k = layoutAt l k .size
+  sizes k = fixedBytes (layoutAt l k)
 
   pub means : LaidOut file h l
   means = laid-out file h (o .header)

@@ -32,7 +32,7 @@ such n k e =
     let z = eqb-false k 0 (b .0) in
     (omega arith, ltb-false n k (b .1))
 
--- a column that is there has one of the 64 places
+-- a column that is there has a place in the layout
 pub column-there : (l : Layout) (k : ℕ) → noSuchColumn l k ≡ false → (0 < k) × (k ≤ mostColumns)
 column-there l k e = let h = such (columnsOf l) k e in (h .0, omega (arith, h .1))
 

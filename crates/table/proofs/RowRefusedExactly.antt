@@ -30,6 +30,7 @@ use Rattle.triplet.specs.Triplet.{badTriplet, tripletOf}
 use Rattle.triplet.specs.Words.{BadAt}
 use Rattle.triplet.proofs.ReadExactly.{refused-exactly}
 use Rattle.header.specs.declared.ColumnLayout.{ColumnLayout}
+use Rattle.header.specs.Layouts.{fixedBytes}
 use Rattle.header.specs.declared.Layout.{Layout}
 use Rattle.table.specs.declared.Reach.{Reach}
 use Rattle.table.specs.declared.Reach.the-variants.{At, Short, Cut}
@@ -72,7 +73,7 @@ module _ (o : Order) (s : List ℕ) (end : ℕ) (c : ColumnLayout) (at : ℕ) wh
             (λ t.
             bool-cases (c .star)
             (λ d. absurd (star-not-cut o s at end (widthOf (c .kind)) q (rw (t, d) at e)))
-            (λ d. absurd (plain-not-cut at end (c .size) q (rw (t, d) at e)))),
+            (λ d. absurd (plain-not-cut at end (fixedBytes c) q (rw (t, d) at e)))),
         λ w. rw (triplet-kind (c .kind) .1 (w .0), refused-exactly o b (refusal badTriplet q) .1 (refl, w .1)),
       )
 

@@ -33,6 +33,7 @@ use Rattle.field.specs.Nulls.{shortHalf, integerHalf, signed, shortIsNull, inte
 use Rattle.triplet.specs.declared.Triplet as read
 use Rattle.triplet.specs.Triplet.{tripletOf}
 use Rattle.header.specs.declared.ColumnLayout.{ColumnLayout}
+use Rattle.header.specs.Layouts.{fixedBytes}
 use Rattle.header.specs.declared.Layout.{Layout}
 use Rattle.header.specs.LayoutWords.{layoutAt}
 use Rattle.table.specs.declared.Reach.{Reach}
@@ -108,7 +109,7 @@ module _ (s t : List ℕ) (start end : ℕ) (e : SameRow s t start end) (a : sta
     elements-same : (c .kind ≡ type.Triplet → ⊥) → elementsBytes o s c at ≡ elementsBytes o t c at
     elements-same kind =
         bool-cases (c .star)
-        (λ b. ap (λ (n : ℕ). cond (c .star) (n * widthOf (c .kind)) (c .size))
+        (λ b. ap (λ (n : ℕ). cond (c .star) (n * widthOf (c .kind)) (fixedBytes c))
         (number-same o at 4 i (omega (arith, star-room o s end c at p f b kind))))
         (λ b. rw b)
 

@@ -10,6 +10,7 @@ use Rattle.number.specs.declared.Order.{Order}
 use Rattle.field.specs.Fields.{widthOf, isTriplet}
 use Rattle.header.specs.declared.ColumnLayout.{ColumnLayout}
 use Rattle.header.specs.declared.Layout.{Layout}
+use Rattle.header.specs.Layouts.{fixedBytes}
 use Rattle.limits.specs.Limits.{mostColumns}
 use Rattle.opening.specs.Opening.{entryEnd}
 use Rattle.table.specs.declared.Reach.{Reach}
@@ -39,7 +40,7 @@ abbrev pub fixedCode : ℕ
 fixedCode = 26
 
 unfoldable pub codeOf : ColumnLayout → ℕ
-codeOf c = cond (isTriplet (c .kind)) tripletCode (cond (c .star) (starCode + widthOf (c .kind)) (fixedCode + c .size))
+codeOf c = cond (isTriplet (c .kind)) tripletCode (cond (c .star) (starCode + widthOf (c .kind)) (fixedCode + fixedBytes c))
 
 -- the codes of the columns that there are
 abbrev pub codeAt : Layout → ℕ → ℕ
@@ -72,8 +73,8 @@ abbrev pub placesLeft : (ℕ → Reach) → ℕ → List ℕ → List ℕ
 placesLeft r zero old = old
 placesLeft r (suc n) old = keep (placesLeft r n old) n (r n)
 
--- THE WALK past the columns 1..n, of which there are at most 64, from a start, and at most to a bound: how far it comes, and the places
--- that it leaves. Of a row outside the file, nothing
+-- THE WALK past the columns 1..n, as far as the limit, from a start, and at most to a bound: how far it comes, and the places that it
+-- leaves. Of a row outside the file, nothing
 unfoldable pub walkOf : Order → List ℕ → List ℕ → ℕ → ℕ → ℕ → Reach
 walkOf o s plan n start bound = cond (outside s start bound) Short (planReach o s plan start bound (min n mostColumns))
 

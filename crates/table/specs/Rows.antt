@@ -15,7 +15,7 @@ use Rattle.triplet.specs.Triplet.{tripletOf}
 use Rattle.header.specs.declared.Layout.{Layout}
 use Rattle.header.specs.declared.ColumnLayout.{ColumnLayout}
 use Rattle.limits.specs.Limits.{mostColumns, mostRows}
-use Rattle.header.specs.Layouts.{blankColumn}
+use Rattle.header.specs.Layouts.{blankColumn, fixedBytes}
 use Rattle.opening.specs.declared.Table.{Table}
 use Rattle.table.specs.declared.Reach.{Reach}
 use Rattle.table.specs.declared.Reach.the-variants.{At, Short, Cut}
@@ -73,7 +73,7 @@ tripletEnd o s at end = pastTriplet at (tripletOf o (take (end - at) (drop at s)
 unfoldable pub fieldEnd : Order → List ℕ → ℕ → ColumnLayout → ℕ → Reach
 fieldEnd o s end c at =
     cond (isTriplet (c .kind)) (tripletEnd o s at end)
-    (cond (c .star) (starEnd o s at end (widthOf (c .kind))) (plainEnd at end (c .size)))
+    (cond (c .star) (starEnd o s at end (widthOf (c .kind))) (plainEnd at end (fixedBytes c)))
 
 abbrev pub onward : Reach → (ℕ → Reach) → Reach
 onward (At p) f = f p

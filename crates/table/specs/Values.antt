@@ -13,6 +13,7 @@ use Rattle.field.specs.Nulls.{shortHalf, integerHalf, signed, shortIsNull, inte
 use Rattle.triplet.specs.declared.Triplet as read
 use Rattle.triplet.specs.Triplet.{tripletOf}
 use Rattle.header.specs.declared.ColumnLayout.{ColumnLayout}
+use Rattle.header.specs.Layouts.{fixedBytes}
 use Rattle.header.specs.declared.Layout.{Layout}
 use Rattle.opening.specs.declared.Table.{Table}
 use Rattle.table.specs.declared.Row as row
@@ -41,7 +42,7 @@ abbrev pub elementsStart : ColumnLayout → ℕ → ℕ → ℕ
 elementsStart c p end = cond (c .star) (min (p + 4) end) p
 
 abbrev pub elementsBytes : Order → List ℕ → ColumnLayout → ℕ → ℕ
-elementsBytes o s c p = cond (c .star) (number o s p 4 * widthOf (c .kind)) (c .size)
+elementsBytes o s c p = cond (c .star) (number o s p 4 * widthOf (c .kind)) (fixedBytes c)
 
 abbrev pub tripletOfRead : read.Triplet → Value
 tripletOfRead (read.the-variants.Is ids n) = Triplet ids

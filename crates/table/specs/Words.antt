@@ -59,11 +59,11 @@ pub record StarEnds (o : Order) (s : List ℕ) (end : ℕ) (c : ColumnLayout) (a
   pub ends : p ≡ at + 4 + number o s at 4 * widthOf (c .kind)
   pub inside : p ≤ end
 
--- any other field has the bytes of its count of elements, which the layout keeps
+-- any other field has the bytes of its count of elements
 pub record FixedEnds (end : ℕ) (c : ColumnLayout) (at p : ℕ) : Type 0 where
   pub kind : c .kind ≡ Triplet → ⊥
   pub no-star : c .star ≡ false
-  pub ends : p ≡ at + c .size
+  pub ends : p ≡ at + c .count * widthOf (c .kind)
   pub inside : p ≤ end
 
 abbrev pub FieldEnds : Order → List ℕ → ℕ → ColumnLayout → ℕ → ℕ → Type 0

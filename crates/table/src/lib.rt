@@ -132,7 +132,7 @@ fn triplet_end(file: &[u8], at: usize, end: usize, order: Order) -> Reach
 
 // ---- columns and rows that there are
 
-// The columns that a layout has: those past the 64th are not there.
+// The columns that a layout has: those past the limit are not there.
 fn count_columns(layout: Layout) -> usize
     ensures { λ r. ⌜ r ≡ columnsOf layout ⌝ }
 {
@@ -326,7 +326,7 @@ fn elements_bytes(file: &[u8], column: ColumnLayout, place: usize, order: Order)
         let kind = column.kind;
         return number::read4(file, place, order) as usize * kind.width();
     }
-    column.size as usize
+    header::fixed_bytes(column) as usize
 }
 
 // The value of the field at a place, by its column's type.

@@ -40,7 +40,7 @@ fn code_of(column: ColumnLayout) -> u64
     if column.star {
         return STAR_CODE + kind.width() as u64;
     }
-    FIXED_CODE + column.size as u64
+    FIXED_CODE + header::fixed_bytes(column) as u64
 }
 
 // The codes of the columns that there are.

@@ -7,7 +7,7 @@ use Rattle.tile.specs.Columns.{Tile}
 use Rattle.tile.specs.Walk.{walkOf, stepsOf, allSteps}
 use Rattle.load.specs.declared.Counts.{Counts}
 use Rattle.directory.specs.declared.Sizes.{Sizes}
-use Rattle.limits.specs.Limits.{programRows, programSides}
+use Rattle.limits.specs.Limits.{programRows, programSides, mostBuffer}
 use Rattle.report.specs.Lines.{refuseLine, acceptLine, ringLine, stepsLine}
 use Rattle.directory.specs.declared.Outcome.{Outcome}
 use Rattle.directory.specs.declared.Outcome.the-variants.{Accepted, Refused}
@@ -20,9 +20,10 @@ use Rattle.directory.specs.Outcome.{tileSaid, checkedOf, outcomeOf}
 abbrev pub ownColumns : List ℕ
 ownColumns = replicate 10 programRows
 
--- room for every text: 31 bytes for each of at most 2,000 ring rows and 62 for the first and the last line are 62,062
+-- room for every text, as much as a buffer may have: 31 bytes for each of at most 2,000 ring rows and 62 for the first and the last line
+-- are 62,062
 abbrev pub textSpace : ℕ
-textSpace = 65536
+textSpace = mostBuffer
 
 -- the steps that the walk from ring row r reports
 abbrev pub stepsFrom : Tile → ℕ → ℕ

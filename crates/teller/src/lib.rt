@@ -2,6 +2,7 @@
 // its file, number and place. The columns, the owner marks and the side list are its own, so that nothing else is left changed.
 use directory::Outcome;
 use directory::Sizes;
+use limits::MOST_BUFFER;
 use limits::PROGRAM_ROWS;
 use limits::PROGRAM_SIDES;
 use load::Counts;
@@ -20,8 +21,8 @@ ghost use Rattle.tile.specs.Walk.{stepsOf};
 ghost use Rattle.directory.specs.Outcome.{checkedOf};
 ghost use Rattle.teller.specs.Text.{textSpace, acceptedText, loadedText, textOf};
 
-// Room for every text, also of tables of 2,000 rows: 62,062 bytes.
-pub const TEXT_SPACE: usize = 65536;
+// Room for every text, which has at most 62,062 bytes: as much as a buffer may have.
+pub const TEXT_SPACE: usize = MOST_BUFFER;
 
 // The steps of a walk. In an accepted tile every walk has them.
 fn steps_of(walked: Walked) -> usize

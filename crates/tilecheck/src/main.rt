@@ -80,7 +80,7 @@ fn read_open(fd: i32, buf: &mut [u8]) -> usize
 }
 
 // "A file that cannot be read counts as empty."
-fn read_file(file: FileName, buf: &mut [u8]) -> usize
+fn read_file(file: FileName, buf: &mut [u8; MOST_BYTES]) -> usize
     ensures { λ r. ⌜ r ≤ length (now (buf .entry)) + 1 ⌝ }
 {
     let name = report::name_of(file);
@@ -93,16 +93,21 @@ fn read_file(file: FileName, buf: &mut [u8]) -> usize
     n
 }
 
-// What was read of a file of this size.
-fn lent<'a>(buf: &'a [u8], size: usize) -> &'a [u8] {
+// The first bytes of the buffer, as many as there are.
+fn front<'a>(buf: &'a [u8], size: usize) -> &'a [u8] {
     if buf.len() < size {
         return buf;
     }
     &buf[0..size]
 }
 
+// What was read of a file of this size.
+fn lent<'a>(buf: &'a [u8; MOST_BYTES], size: usize) -> &'a [u8] {
+    front(buf, size)
+}
+
 // "cnx if K occurs": it is read only beside a cnd that shows K.
-fn read_node_index(cnd: &[u8], buf: &mut [u8]) -> usize
+fn read_node_index(cnd: &[u8], buf: &mut [u8; MOST_BYTES]) -> usize
     ensures { λ r. ⌜ r ≤ length (now (buf .entry)) + 1 ⌝ }
 {
     if directory::files::shows_triplet(cnd) {

@@ -25,7 +25,7 @@ use Rattle.header.specs.Places.{firstPlace, placeAfter, column}
 use Rattle.header.specs.Names.{namedBefore, namesOf, noNames}
 use Rattle.header.specs.Judge.{orderOfFile, textLength, headOf, columnCount, grammarRefusal, columnsOf, keyP, sound, columnRefusal}
 use Rattle.header.specs.Judge.{idColumn, idWrong, headerRefusal}
-use Rattle.header.specs.Layouts.{kindOf, fieldSize, blankColumn, laidOut, rowWidth}
+use Rattle.header.specs.Layouts.{kindOf, countKept, blankColumn, laidOut, rowWidth}
 use Rattle.header.specs.Steps.{startsAt, stepFrom}
 
 -- the four bytes of L and the longest text
@@ -46,7 +46,7 @@ unsound s k = not (sound (column s k))
 
 -- what a row needs of the column that d defines, `offset` fixed bytes standing before it
 unfoldable pub laidAfter : Definition → ℕ → ColumnLayout
-laidAfter d offset = record { kind = kindOf (typeOf (d .kind)); star = d .star; count = d .count; size = fieldSize d; offset = offset }
+laidAfter d offset = record { kind = kindOf (typeOf (d .kind)); star = d .star; count = countKept d; offset = offset }
 
 -- what one pass keeps of the columns 1..n, each sound
 unfoldable pub keptOf : List ℕ → ℕ → Kept
@@ -89,12 +89,14 @@ idLaid l key = isInteger (l .kind) && (not (l .star) && (eqb (l .count) 1 && eqb
 abbrev pub otherKeyIn : List ℕ → ℕ → ℕ → Bool
 otherKeyIn keys id k = eqb (getD keys (pred k) 0) keyP && not (eqb k id)
 
-unfoldable pub idWrongIn : Kept → ℕ → ℕ → Bool
-idWrongIn kept n id =
-    eqb id 0
-    || (not (idLaid (getD (kept .cols) (pred id) blankColumn) (getD (kept .keys) (pred id) 0)) || ltb 0 (lowest (otherKeyIn (kept .keys) id) n))
+-- of the column `id`, where there is one
+unfoldable pub idWrongAt : ColumnLayout → List ℕ → ℕ → ℕ → Bool
+idWrongAt c keys n id = not (idLaid c (getD keys (pred id) 0)) || ltb 0 (lowest (otherKeyIn keys id) n)
 
--- 5 for a name, 6: of at most 64 columns
+unfoldable pub idWrongIn : Kept → ℕ → ℕ → Bool
+idWrongIn kept n id = eqb id 0 || idWrongAt (getD (kept .cols) (pred id) blankColumn) (kept .keys) n id
+
+-- 5 for a name, 6: of no more columns than the limit
 unfoldable pub nameTests : List ℕ → ℕ → List Refusal
 nameTests s n = located 5 (lowest (namedBefore s) n) ∷ refusedIf (idWrong s n) 6 0 ∷ []
 

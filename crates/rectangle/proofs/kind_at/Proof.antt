@@ -6,7 +6,7 @@ use Rattle.table.proofs.RowLaws.{column-there}
 use Rattle.rectangle.proofs.kind_at.Statement.{statement}
 use Rattle.rectangle.proofs.kind_at.Tie as tie
 
--- the column is one of the 64 places
+-- the column has a place in the layout
 sub-c : tie.Need-sub-c
 sub-c c = let h = column-there (c .args .t1) (c .args .column) (c .pre) in omega arith
 

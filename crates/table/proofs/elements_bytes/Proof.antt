@@ -11,9 +11,10 @@ returns : tie.Need-returns
 returns c = simp (← c .width .ensures .0, ← c .before .read4 .ensures, c .before .before .if1 .taken)
 
 returns-2 : tie.Need-returns-2
-returns-2 c = simp (c .before .if1 .left)
+returns-2 c = simp (c .fixed-bytes .ensures .0, c .before .if1 .left)
 
 pub elements-bytes-spec : {M : Type 1} → statement M
 elements-bytes-spec =
     tie.close
-    (tie.spec (λ c κs. search needs) (λ c. search needs) (λ c κs. search needs) mul-result returns (λ c. search needs) returns-2)
+    (tie.spec (λ c κs. search needs) (λ c. search needs) (λ c κs. search needs) mul-result returns (λ c κs. search needs)
+    (λ c. search needs) returns-2)

@@ -22,7 +22,7 @@ returns c =
 abbrev start-of : tie.Else1 → tie.Start
 start-of c = c .before .before .before .before .before
 
--- the column has one of the 64 places
+-- the column has a place in the layout
 column-at : (c : tie.Else1) → let s = start-of c .args in (0 < s .column) × (s .column ≤ mostColumns)
 column-at c = let start = start-of c in column-there (start .args .t2) (start .args .column) (start .pre)
 

@@ -32,10 +32,10 @@ loop-again c =
     let start = at-loop .before .before in (
       omega arith,
       at-next (start .args .head .now) (at-loop .loop .k) (at-loop .loop .at) (at-definition-at .definition-at .result) (at-loop .loop .inv .1)
-          (at-definition-at .definition-at .ensures .0),
+          (at-definition-at .definition-at .ensures),
       none-next (unsound (start .args .head .now)) (at-loop .loop .k) (at-loop .loop .inv .2) (unsound-next (start .args .head .now)
           (at-loop .loop .k) (at-loop .loop .at) (at-definition-at .definition-at .result) (at-loop .loop .inv .1)
-          (at-definition-at .definition-at .ensures .0) _ (sym (c .if1 .taken) ∙ at-is-sound .is-sound .ensures)),
+          (at-definition-at .definition-at .ensures) _ (sym (c .if1 .taken) ∙ at-is-sound .is-sound .ensures)),
     )
 
 returns : tie.Need-returns Inv-loop μ-loop
@@ -46,7 +46,7 @@ returns c =
       c .refuse .ensures ∙ columns-wrong (start .args .head .now) (start .args .n) (at-loop .loop .k + 1) (sym (lowest-next (unsound
           (start .args .head .now)) (start .args .n) (at-loop .loop .k) (omega arith) (at-loop .loop .inv .2)
           (unsound-next (start .args .head .now) (at-loop .loop .k) (at-loop .loop .at) (at-definition-at .definition-at .result)
-          (at-loop .loop .inv .1) (at-definition-at .definition-at .ensures .0) _
+          (at-loop .loop .inv .1) (at-definition-at .definition-at .ensures) _
           (sym (at-if1 .if1 .left) ∙ at-is-sound .is-sound .ensures)))) (λ z. omega (arith, z)),
       omega (arith, ap (λ (r : Refusal). r .number) (c .refuse .ensures)),
     )

@@ -8,12 +8,12 @@ use Rattle.header.proofs.places.count_of.Tie as tie
 returns : tie.Need-returns
 returns c =
     let args = c .before .before .before .args in
-    (c .number-from .ensures .0 ∙ count-long (args .head .now) (args .p) (args .e) (omega arith), c .number-from .ensures .1)
+    c .number-from .ensures ∙ count-long (args .head .now) (args .p) (args .e) (omega arith)
 
 returns-2 : tie.Need-returns-2
 returns-2 c =
-    let number-from2 = c .number-from2 in let args = c .before .before .before .args in
-    (number-from2 .ensures .0 ∙ count-short (args .head .now) (args .p) (args .e) (omega arith), number-from2 .ensures .1)
+    let args = c .before .before .before .args in
+    c .number-from2 .ensures ∙ count-short (args .head .now) (args .p) (args .e) (omega arith)
 
 pub count-of-spec : {M : Type 1} → statement M
 count-of-spec =

@@ -14,15 +14,13 @@ returns c =
     let seek-byte4 = at-seek-byte4 .seek-byte4 in let seek-byte5 = at-seek-byte5 .seek-byte5 in
     let seek-byte6 = at-seek-byte6 .seek-byte6 in let byte-at = at-byte-at .byte-at in
     let byte-at2 = at-byte-at2 .byte-at2 in
-    let count-of = at-count-of .count-of in (
-      defined (args .head .now) (args .p) (seek-byte .result) (seek-byte2 .result) (seek-byte3 .result)
-          (seek-byte4 .result) (seek-byte5 .result) (seek-byte6 .result)
-          (seek-byte .ensures .0) (seek-byte2 .ensures .0) (seek-byte3 .ensures .0) (seek-byte4 .ensures .0)
-          (seek-byte5 .ensures .0) (seek-byte6 .ensures .0)
-          (byte-at .result) (byte-at2 .result) (count-of .result) (c .byte-at3 .result) (byte-at .ensures) (byte-at2 .ensures)
-          (count-of .ensures .0) (c .byte-at3 .ensures),
-      count-of .ensures .1,
-    )
+    let count-of = at-count-of .count-of in
+    defined (args .head .now) (args .p) (seek-byte .result) (seek-byte2 .result) (seek-byte3 .result)
+    (seek-byte4 .result) (seek-byte5 .result) (seek-byte6 .result)
+    (seek-byte .ensures .0) (seek-byte2 .ensures .0) (seek-byte3 .ensures .0) (seek-byte4 .ensures .0)
+    (seek-byte5 .ensures .0) (seek-byte6 .ensures .0)
+    (byte-at .result) (byte-at2 .result) (count-of .result) (c .byte-at3 .result) (byte-at .ensures) (byte-at2 .ensures)
+    (count-of .ensures) (c .byte-at3 .ensures)
 
 pub definition-at-spec : {M : Type 1} → statement M
 definition-at-spec =

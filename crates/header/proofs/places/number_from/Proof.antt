@@ -36,7 +36,7 @@ loop-again c =
 returns : tie.Need-returns Inv-loop μ-loop
 returns c =
     let args = c .before .before .before .args in let loop = c .before .loop in
-    (decimal-done (args .head .now) (args .p) (args .e) (loop .i) (loop .value) (omega arith) ∙ loop .inv .1, loop .inv .0)
+    decimal-done (args .head .now) (args .p) (args .e) (loop .i) (loop .value) (omega arith) ∙ loop .inv .1
 
 pub number-from-spec : {M : Type 1} → statement M
 number-from-spec =

@@ -33,7 +33,7 @@ returns c =
     let start = at-loop .before .before .before in
     step-column (start .args .head .now) (start .args .place) (at-loop .loop .k) (at-loop .loop .inv .1) _
     (ap (λ (x : List ℕ). getD x (at-loop .loop .k) 0) (start .pre .2) ∙ starts-at (start .args .head .now) (start .args .n) (at-loop .loop .k)
-    (omega arith)) (start .args .n) (c .definition-at .result) (omega arith) (at-if1 .if1 .taken) (c .definition-at .ensures .0)
+    (omega arith)) (start .args .n) (c .definition-at .result) (omega arith) (at-if1 .if1 .taken) (c .definition-at .ensures)
 
 loop-again : tie.Need-loop-again Inv-loop μ-loop
 loop-again c =
