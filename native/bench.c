@@ -2,6 +2,7 @@
 #define MOST_FILE 80000000
 #include "tables.h"
 #include "tiles.h"
+#include <dlfcn.h>
 #include <stdio.h>
 #include <time.h>
 
@@ -219,6 +220,81 @@ static void headers(void) {
     }
 }
 
+/* ---- the name check: headers of names that are unlike in one way */
+
+static const char *ways[] = {"unequal lengths", "one length, first letters", "one length, last letters", "one length, middle alone"};
+
+/* the name of column k, 0 to 127: of 1 to 24 bytes, or of 24 that differ in two neighbouring ones */
+static void some_name(char name[25], int way, size_t k) {
+    static const char letters[] = "abcdefghijklmnopqrstuvwxyz0123456789";
+    size_t length = way == 0 ? 1 + k % 24 : 24;
+    memset(name, 'n', length);
+    name[length] = 0;
+    if (way == 0) {
+        name[0] = letters[k / 24];
+        return;
+    }
+    size_t at = way == 1 ? 0 : way == 2 ? 23 : 11;
+    name[at] = letters[k % 36];
+    name[way == 1 ? 1 : at - 1] = letters[k / 36];
+}
+
+/* `stops`: the second column has the name of the first, so that the search ends where it begins */
+static void named_columns(int way, size_t columns, bool stops) {
+    begin_table(&big, 'L', "Edge Primitive Table", "-");
+    add_column(&big, "id", 'I', "1", 'P', "");
+    for (size_t k = 1; k < columns; k++) {
+        char name[25];
+        some_name(name, way, k);
+        if (stops && k == 1) strcpy(name, "ID");
+        add_column(&big, name, 'I', "1", 'N', "");
+    }
+    end_header(&big);
+}
+
+typedef vumbarete_header_answer (*header_call)(const uint8_t *file, size_t size);
+
+static double seconds(header_call header, const uint8_t *file, size_t size, int many) {
+    size_t sum = 0;
+    double start = now();
+    for (int k = 0; k < many; k++) sum += header(file, size).number;
+    double end = now();
+    sink = sum;
+    return end - start;
+}
+
+/* Whole headers, and how much longer each takes than the same header whose search ends where it begins: that is the name check and what comes
+ * after it. `before`: the same call of another build, or NULL. */
+static void names(header_call before) {
+    static const size_t some[] = {2, 16, 64, 128};
+    static uint8_t stopping[MOST_TEXT + 4];
+    header_call calls[3] = {vumbarete_header, ref_header, before};
+    printf("\nHeaders by what their names differ in; check: longer than where the search ends at once\n%-28s %8s %10s %10s %7s %10s %10s", "", "columns", "ours ns",
+           "C ns", "ratio", "check", "of C");
+    printf(before ? " %10s %11s %10s %11s\n" : "\n", "before ns", "before/ours", "its check", "before/ours");
+    for (int way = 0; way < 4; way++)
+        for (int i = 0; i < 4; i++) {
+            double best[3] = {1e9, 1e9, 1e9}, least[3] = {1e9, 1e9, 1e9};
+            int many = (int)(4000 / some[i]);
+            named_columns(way, some[i], true);
+            size_t size = big.size;
+            memcpy(stopping, big.file, size);
+            named_columns(way, some[i], false);
+            if (vumbarete_header(stopping, size).place != 2 || vumbarete_header(big.file, big.size).number) fprintf(stderr, "header judged otherwise\n"), exit(1);
+            for (int turn = 0; turn < 40; turn++)
+                for (int c = 0; c < 3 && calls[c]; c++) {
+                    double t = seconds(calls[c], big.file, big.size, many), u = seconds(calls[c], stopping, size, many);
+                    if (t < best[c]) best[c] = t;
+                    if (u < least[c]) least[c] = u;
+                }
+            double check[3];
+            for (int c = 0; c < 3; c++) best[c] *= 1e9 / many, check[c] = best[c] - least[c] * 1e9 / many;
+            printf("%-28s %8zu %10.0f %10.0f %7.3f %10.0f %10.0f", ways[way], some[i], best[0], best[1], best[0] / best[1], check[0], check[1]);
+            if (before) printf(" %10.0f %11.2f %10.0f %11.2f", best[2], best[2] / best[0], check[2], check[2] / check[0]);
+            printf("\n");
+        }
+}
+
 /* one value of the last row and column: the table is opened for it */
 static void values(void) {
     printf("\nOne value of a table of 20 rows, opening and all\n%-34s %12s %12s %7s\n", "", "ours ns", "C ns", "ratio");
@@ -288,14 +364,21 @@ static void beside_ogdi(const char *folder) {
 }
 #endif
 
+/* bench [before LIBRARY | ogdi FOLDER] */
 int main(int argc, char **argv) {
+    header_call before = NULL;
+    if (argc > 2 && !strcmp(argv[1], "before")) {
+        void *library = dlopen(argv[2], RTLD_NOW | RTLD_LOCAL);
+        if (library) before = (header_call)dlsym(library, "vumbarete_header");
+        if (!before) fprintf(stderr, "%s: %s\n", argv[2], dlerror()), exit(1);
+    }
     headers();
+    names(before);
+    if (before) return 0;
     values();
     rows();
 #ifdef OGDI
-    beside_ogdi(argc > 1 ? argv[1] : ".");
-#else
-    (void)argc, (void)argv;
+    beside_ogdi(argc > 2 ? argv[2] : ".");
 #endif
     loads();
     printf("\nChecking and walking, times per edge; both: check and all walks\n");

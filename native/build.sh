@@ -13,6 +13,7 @@ if [ "$(uname -m)" = x86_64 ]; then
         gcc -std=c11 -D_POSIX_C_SOURCE=199309L -O3 -Wall -Wextra -c native/reference.c -o "$out/reference.o"
         gcc -std=c11 -D_POSIX_C_SOURCE=199309L "$2" -Wall -Wextra "native/$1.c" "$out/reference.o" target/staticlib/libabi.a -o "$out/$1" ${3:-}
     }
+    share() { gcc -shared -o "$2" -Wl,--whole-archive "$1" -Wl,--no-whole-archive; } # ARCHIVE LIBRARY: to be loaded beside another
     run_built() { name=$1; shift; "$out/$name" "$@"; }
 else
     need clang clang
@@ -27,5 +28,6 @@ else
             "$out/$1.o" "$out/reference.o" target/staticlib/libabi.a "$lib/libc.so.6" "$lib/libc_nonshared.a" "$lib/libgcc.a" \
             "$lib/crtendS.o" "$lib/crtn.o"
     }
+    share() { "$tools/bin/ld.lld" -shared -o "$2" --whole-archive "$1" --no-whole-archive "$lib/libc.so.6"; }
     run_built() { name=$1; shift; "$tools/bin/qemu-x86_64" "$lib/ld-linux-x86-64.so.2" --library-path "$lib" "$out/$name" "$@"; }
 fi

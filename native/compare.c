@@ -180,7 +180,7 @@ static void right_table(made_table *t) {
     static const char types[] = "TLFRSICZBYDXK";
     char title[96], narrative[16], name[32], about[96], count[8];
     size_t columns = chance(60) ? MOST_COLUMNS - 4 + below(6) : 1 + below(7), id = below(columns);
-    bool fixed = chance(2), faulty = chance(12);
+    bool fixed = chance(2), faulty = chance(12), alike = chance(5);
     begin_table(t, "LM\0"[below(3)], printable(title, 0, 80, ";"), printable(narrative, 1, 12, ";"));
     for (size_t k = 0; k < columns; k++) {
         if (k == id) {
@@ -192,8 +192,15 @@ static void right_table(made_table *t) {
         bool several = strchr("TLCZBY", type) != NULL;
         if (several && !fixed && chance(2)) strcpy(count, "*");
         else snprintf(count, sizeof count, "%u", several ? (unsigned)(1 + below(3)) : 1u);
-        snprintf(name, sizeof name, "%c%zu", (char)('a' + below(26)), chance(40) ? below(k + 1) : k);
-        if (chance(3)) printable(name + strlen(name), 0, 24 - strlen(name), ";:,=");
+        size_t part = chance(40) ? below(k + 1) : k;
+        if (alike) { /* names that differ in the middle alone; 0 to 9 and p to y have the same five bits */
+            snprintf(name, sizeof name, "%s%02zu%s", chance(2) ? "ab" : "aB", part, chance(2) ? "xyz" : "Xyz");
+            for (size_t i = 2; name[i] >= '0' && name[i] <= '9'; i++)
+                if (chance(2)) name[i] = (char)(name[i] - '0' + "pP"[below(2)]);
+        } else {
+            snprintf(name, sizeof name, "%c%zu", (char)('a' + below(26)), part);
+            if (chance(3)) printable(name + strlen(name), 0, 24 - strlen(name), ";:,=");
+        }
         if (chance(80 + 4 * columns)) strcpy(name, "iD");
         char key = "UN"[below(2)];
         if (faulty && chance(6)) { /* what the grammar takes and the rules do not */

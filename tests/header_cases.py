@@ -1,6 +1,7 @@
 """Writes the cases of program header_cases and what it must print for them, from document 01's rules as header_rules.py has them.
 The header texts of documents 01 and 002 and what is known of them are asserted before anything is written."""
-from casefile import Cases, number, refused
+import outside
+from casefile import MOST_BYTES, Cases, number, refused
 from header_rules import ID, MANY, MOST_COLUMNS, MOST_TEXT, P1, WIDTHS, Refused, column, fixed_bytes, header, lower, read, row_width, standing, table
 
 
@@ -32,6 +33,13 @@ def answer(file, place, name):
         at = after
     found = names.index(lower(name)) + 1 if lower(name) in names else 0
     return "\n".join(lines + [f"  at {place} {step(columns, place)[0]}", f"  `{name}` is column {found}"])
+
+
+def verdict(file):
+    try:
+        return f"accepted, columns {len(read(file)[2])}"
+    except Refused as q:
+        return refused(*q.args)
 
 
 # --- the cases ---
@@ -190,6 +198,15 @@ add("`[` and `{` differ", table(header(ID, column("a["), column("a{"), column("a
 add("a blank more differs", table(header(ID, column("a"), column("a "), column(" a"))), says=(len(header(ID, *[column("a"), column("a "), column(" a")])) + 4, 4, 16), name="a ")
 add("5 before 6", table(header(column("a"), column("a"))), says=refused(5, 2))
 
+# Names of one length that begin and end alike, and bytes that have the same five bits: each another name until its bytes are the same.
+alike = [ID] + [column(f"ab{k:03}xyz", kind="S") for k in range(2, M + 1)]
+add("names that differ in the middle", table(header(ID, column("ab1xyz"), column("ab2xyz"))), says=(len(header(ID, *2 * [column("ab1xyz")])) + 4, 3, 12), name="AB2xyz")
+add("names that differ in the middle, the second again", table(header(ID, column("ab1xyz"), column("ab2xyz"), column("AB2XYZ"))), says=refused(5, 4))
+add("`1q` and `Q1`", table(header(ID, column("1q"), column("q1"), column("11"), column("qq"))), says=(len(header(ID, *4 * [column("1q")])) + 4, 5, 20), name="Q1")
+add("`1q` and `1Q`", table(header(ID, column("q1"), column("1q"), column("11"), column("1Q"))), says=refused(5, 5))
+add(f"{M} columns that differ in the middle", table(header(*alike)), says=(len(header(*alike)) + 4, M, 4 + (M - 1) * 2), name=f"AB{M}XYZ", to=longer)
+add(f"{M} columns that differ in the middle, the first again", table(header(*alike[:-1], column("Ab002xyZ"))), says=refused(5, M), to=longer)
+
 # 6: the id column and key P.
 add("no id", table(header(column("a"), column("b"))), says=refused(6, 0))
 add("`id ` is not id", table(header(column("id ", key="P"))), says=refused(6, 0))
@@ -225,4 +242,14 @@ add("L of 32,767", table(of_length(MOST_TEXT)), says=refused(5, M + 1), to=long)
 add("L of 32,768", table(of_length(MOST_TEXT + 1)), says=refused(15, 0), to=longer)
 add("L of 32,768 and no header text", table("M" + "x" * MOST_TEXT), says=refused(15, 0))
 
-(cases.crate / "stdout").write_text(cases.write() + long.write() + longer.write())
+
+# Outside cases of names: the answer alone.
+names = [Cases("header_cases", "names"), Cases("header_cases", "more_names")]
+for k, values in outside.cases("03-headers"):
+    file, bad = table(values["text"]), outside.refusal(values["answer"])
+    says = refused(*bad) if bad else f"accepted, columns {values['answer'].removeprefix('ok ')}"
+    assert says == verdict(file), (k, says, verdict(file))
+    to = names[0] if len(names[0].data) + len(file) + 40 <= MOST_BYTES and not names[1].data else names[1]
+    to.add(f"03-headers {k}", [file], says)
+
+(cases.crate / "stdout").write_text("".join(c.write() for c in [cases, long, longer, *names]))

@@ -11,6 +11,7 @@ pub mod ColumnOfName
 pub mod PlaceLaws
 pub mod CountLaws
 pub mod NameLaws
+pub mod NumberLaws
 pub mod StepLaws
 pub mod JudgeLaws
 pub mod LayoutLaws

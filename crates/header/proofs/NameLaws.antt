@@ -95,7 +95,7 @@ abbrev pub namesAs : List ℕ → ℕ → ℕ → Bool
 namesAs s later i = sameName s i (suc later)
 
 module _ (s : List ℕ) (n : ℕ) (starts ends : List ℕ) (e : namesFrom starts ends ≡ namesOf s n) where
-  name-at : (i : ℕ) → i < n → part s (span (getD starts i 0) (getD ends i 0)) ≡ nameOf s (suc i)
+  pub name-at : (i : ℕ) → i < n → part s (span (getD starts i 0) (getD ends i 0)) ≡ nameOf s (suc i)
   name-at i h = (λ t. nameAmong s (e t) (suc i)) ∙ among-at s n i h s
 
   pub pair-tested : (i j : ℕ) (b : Bool) → i < n → j < n

@@ -3,6 +3,7 @@
 mod judge;
 mod layouts;
 mod naming;
+mod numbers;
 mod places;
 mod steps;
 

@@ -1,8 +1,13 @@
 // Column names, case ignored, found by where they lie.
+use crate::numbers;
+use crate::numbers::SLOTS;
+use limits::MOST_COLUMNS;
 ghost use mathlib.Core.Path.{_≡_};
+ghost use mathlib.Core.Bool.{cond};
 ghost use Prim.Native.Nat.{_-_, _≤_};
 ghost use lib.ListN.{length, take, drop};
 ghost use Rattle.laws.specs.Lowest.{lowest};
+ghost use Rattle.limits.specs.Limits.{mostColumns};
 ghost use Rattle.header.specs.Names.{lower, sameText, namedBefore, namesFrom, namesOf, isAmong};
 ghost use Rattle.header.specs.Places.{part, span};
 
@@ -79,29 +84,46 @@ fn same_name(file: &[u8], a: usize, b: usize, c: usize, d: usize) -> bool
     same_text(bytes_between(file, a, b), bytes_between(file, c, d))
 }
 
-// "Two columns with one name are refused at the first such pair (lowest later column), case ignored": that column, or 0.
+// The first column to look at: none of those before the later one where its slot is not marked.
+fn first_tried(marked: bool, later: usize) -> usize
+    ensures { λ r. ⌜ r ≡ cond marked 0 later ⌝ }
+{
+    if marked { 0 } else { later }
+}
+
+// "Two columns with one name are refused at the first such pair (lowest later column), case ignored": that column, or 0. `seen` are the
+// numbers of the names so far and `marked` their slots: a name is compared with an earlier one only where the slot of its number is
+// marked, and byte by byte only where the two numbers agree.
 pub(crate) fn doubled_name(head: &[u8], starts: &[u16], ends: &[u16], n: usize) -> usize
-    requires { ⌜ (n ≤ length (now starts)) × (n ≤ length (now ends)) ⌝ }
+    requires { ⌜ (n ≤ mostColumns) × (n ≤ length (now starts)) × (n ≤ length (now ends)) ⌝ }
     requires { ⌜ namesFrom (now starts) (now ends) ≡ namesOf (now head) n ⌝ }
     ensures { λ r. ⌜ r ≡ lowest (namedBefore (now (head .entry))) n ⌝ }
 {
+    let mut seen = [0u32; MOST_COLUMNS];
+    let mut marked = [false; SLOTS];
     let mut later = 0;
     'search: while later < n {
         let start = starts[later] as usize;
         let end = ends[later] as usize;
-        let mut earlier = 0;
+        let number = numbers::number_of(bytes_between(head, start, end));
+        let slot = numbers::slot_of(number);
+        let mut earlier = first_tried(marked[slot], later);
         while earlier < later {
-            if same_name(
-                head,
-                starts[earlier] as usize,
-                ends[earlier] as usize,
-                start,
-                end,
-            ) {
-                break 'search;
+            if seen[earlier] == number {
+                if same_name(
+                    head,
+                    starts[earlier] as usize,
+                    ends[earlier] as usize,
+                    start,
+                    end,
+                ) {
+                    break 'search;
+                }
             }
             earlier += 1;
         }
+        seen[later] = number;
+        marked[slot] = true;
         later += 1;
     }
     if later < n { later + 1 } else { 0 }

@@ -1,7 +1,8 @@
 // Runs the cases of data/cases, data/long and data/longer over the header: for each its label and the answer; for an accepted one
 // what rows need of it, and each step through its columns; then a step at the place where these ended, another at a place that
 // the case names, and where a column name that it gives is found. A case is a field of four fields: the label, the table file,
-// the place (8 bytes) and the name.
+// the place (8 bytes) and the name. Of data/names and data/more_names, whose cases have the label and the table file, it says the
+// answer alone.
 use casefile::say;
 use casefile::say_number;
 use casefile::say_part;
@@ -142,12 +143,31 @@ fn say_header(file: &[u8]) {
     say_step(file, last);
 }
 
-fn run_case(case: &[u8]) {
+// The answer alone, and of an accepted header how many columns it has.
+fn say_answer(file: &[u8]) {
+    let h = header::read_header(file);
+    let answer = h.answer;
+    let layout = h.layout;
+    match answer {
+        Answer::Accepted => {
+            say(b"accepted, columns ");
+            say_number(layout.columns as u64);
+        }
+        Answer::Refused(bad) => say_refusal(bad),
+    }
+    say(b"\n");
+}
+
+fn run_case(case: &[u8], brief: bool) {
     let file = casefile::part(case, 1);
     let place = number::read8(casefile::part(case, 2), 0, Order::Least) as usize;
     let name = casefile::part(case, 3);
     say(casefile::part(case, 0));
     say(b": ");
+    if brief {
+        say_answer(file);
+        return;
+    }
     say_header(file);
     say_step(file, place);
     say(b"  `");
@@ -157,22 +177,24 @@ fn run_case(case: &[u8]) {
     say(b"\n");
 }
 
-fn run(file: &[u8]) {
+fn run(file: &[u8], brief: bool) {
     let mut at = 0;
     while at < file.len() {
-        run_case(casefile::field(file, at));
+        run_case(casefile::field(file, at), brief);
         at = casefile::after(file, at);
     }
 }
 
-fn run_file(path: &[u8]) {
+fn run_file(path: &[u8], brief: bool) {
     let mut buf = io::large_buffer();
     let n = casefile::load(path, &mut buf);
-    run(&buf[..n]);
+    run(&buf[..n], brief);
 }
 
 fn main() {
-    run_file(b"cases");
-    run_file(b"long");
-    run_file(b"longer");
+    run_file(b"cases", false);
+    run_file(b"long", false);
+    run_file(b"longer", false);
+    run_file(b"names", true);
+    run_file(b"more_names", true);
 }

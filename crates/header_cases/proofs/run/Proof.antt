@@ -5,10 +5,10 @@ use Rattle.header_cases.proofs.run.Statement.{statement}
 use Rattle.header_cases.proofs.run.Tie as tie
 
 abbrev Inv-loop : tie.InvT-loop
-Inv-loop file at₀ at = Unit
+Inv-loop file brief at₀ at = Unit
 
 abbrev μ-loop : tie.MeasureT-loop
-μ-loop file at₀ at = length file - at
+μ-loop file brief at₀ at = length file - at
 
 pub run-spec : {M : Type 1} → statement M
 run-spec =

@@ -75,8 +75,8 @@ joined c =
 doubled-name-requires : tie.Need-doubled-name-requires
 doubled-name-requires c κs =
     let at-if2 = c .before .before .before .before .before in let start = start-of at-if2 in
-    let n = names-kept at-if2 in
-    (names-long (start .args .head .now) (start .args .n) (kept-at at-if2 .names) n, n)
+    let n = names-kept at-if2 in let long = names-long (start .args .head .now) (start .args .n) (kept-at at-if2 .names) n in
+    ((at-if2 .if2 .left, long .0, long .1), n)
 
 returns-3 : tie.Need-returns-3
 returns-3 c =
