@@ -4,11 +4,11 @@ use mathlib.Core.Path.{_≡_, refl, sym, ap, _∙_}
 use mathlib.Core.Logic.{by-cases}
 use mathlib.Core.Bool.{Bool, true, false, cond, true≢false}
 use mathlib.Core.List.{List, [], _∷_, _++_}
-use Prim.Native.Nat.{ℕ, suc, _+_, _*_, _%_, _≤_, _<_}
+use Prim.Native.Nat.{ℕ, suc, _+_, _%_, _≤_, _<_}
 use native.Mathlib.Decide.{decLe, ℕ-discrete}
 use native.Mathlib.Omega.{arith}
-use lib.Dec.{leb}
 use native.Mathlib.Numerals.{add-one}
+use lib.Dec.{leb}
 use lib.ListN.{length, getD, set, drop, drop-of-length-le}
 use lib.Seq.{drop-cons, getD-set-same, getD-set-other}
 use Rattle.laws.specs.Lowest.{None, Each}
@@ -28,8 +28,8 @@ caseless-lower x =
     (λ a. bool-cases (leb x 90) (λ b. rw (a, b) (omega arith)) (λ b. rw (a, b)))
     (λ a. rw a)
 
-same-letter : (n x y : ℕ) → lower x ≡ lower y → withLetter n x ≡ withLetter n y
-same-letter n x y e = ap (λ (c : ℕ). n % 67108864 * 37 + c) (sym (caseless-lower x) ∙ ap caseless e ∙ caseless-lower y)
+same-letter : (x y : ℕ) → lower x ≡ lower y → caseless x ≡ caseless y
+same-letter x y e = sym (caseless-lower x) ∙ ap caseless e ∙ caseless-lower y
 
 same-letters : (n : ℕ) (a b : List ℕ) → sameText a b ≡ true → (length a ≡ length b) × (withLetters n a ≡ withLetters n b)
 same-letters n [] [] e = (refl, refl)
@@ -37,8 +37,8 @@ same-letters n [] (y ∷ b) e = absurd (true≢false (sym e))
 same-letters n (x ∷ a) [] e = absurd (true≢false (sym e))
 same-letters n (x ∷ a) (y ∷ b) e =
     let same = and-true _ _ (equal (lower x) (lower y)) (λ (t : sameText a b ≡ true). t, λ t. t) .0 e in
-    let rest = same-letters (withLetter n x) a b (same .1) in
-    (ap suc (rest .0), rest .1 ∙ ap (λ (m : ℕ). withLetters m b) (same-letter n x y (same .0)))
+    let rest = same-letters (withLetter n (caseless x)) a b (same .1) in
+    (ap suc (rest .0), rest .1 ∙ ap (λ (c : ℕ). withLetters (withLetter n c) b) (same-letter x y (same .0)))
 
 pub same-number : (a b : List ℕ) → sameText a b ≡ true → numberOf a ≡ numberOf b
 unfolding numberOf
@@ -47,7 +47,8 @@ same-number a b e =
     same .1 ∙ ap (λ (n : ℕ). withLetters (n % 32) b) (same .0)
 
 -- ---- one turn of the loop over a name's letters
-pub letter-next : (s : List ℕ) (i n : ℕ) → i < length s → withLetters n (drop i s) ≡ withLetters (withLetter n (getD s i 0)) (drop (i + 1) s)
+pub letter-next : (s : List ℕ) (i n : ℕ) → i < length s
+    → withLetters n (drop i s) ≡ withLetters (withLetter n (caseless (getD s i 0))) (drop (i + 1) s)
 letter-next s i n h = rw (drop-cons s i 0 h, add-one i)
 
 pub letters-done : (s : List ℕ) (i n : ℕ) → length s ≤ i → n ≡ withLetters n (drop i s)

@@ -1,9 +1,9 @@
 // One number for a name, of its length and of all its letters: the same for the same text.
 ghost use mathlib.Core.Path.{_≡_};
 ghost use Prim.Native.Nat.{_<_};
-ghost use Rattle.header.specs.Serving.Numbers.{withLetter, numberOf, slots, slotOf};
+ghost use Rattle.header.specs.Serving.Numbers.{caseless, withLetter, numberOf, slots, slotOf};
 
-// A prime, so that every letter has a say in the slot.
+// No multiple of 37, so that every letter has a say in the slot.
 pub(crate) const SLOTS: usize = 251;
 
 // 26 bits: with one letter more a number has room in 32.
@@ -11,7 +11,7 @@ const KEPT: u32 = 67108864;
 
 // A number with one letter more, of which five bits count: they do not tell its case.
 fn with_letter(number: u32, letter: u8) -> u32
-    ensures { λ r. ⌜ r ≡ withLetter number letter ⌝ }
+    ensures { λ r. ⌜ r ≡ withLetter number (caseless letter) ⌝ }
 {
     number % KEPT * 37 + (letter % 32) as u32
 }

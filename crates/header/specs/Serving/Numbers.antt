@@ -8,18 +8,19 @@ use lib.ListN.{length}
 abbrev pub caseless : ℕ → ℕ
 caseless b = b % 32
 
--- a number with one letter more; 26 bits of the number are kept, so that the sum has 32
+-- a number with five bits more; 26 bits of the number are kept, so that the sum has room in 32
 abbrev pub withLetter : ℕ → ℕ → ℕ
-withLetter number letter = number % 67108864 * 37 + caseless letter
+withLetter number letter = number % 67108864 * 37 + letter
 
 abbrev pub withLetters : ℕ → List ℕ → ℕ
 withLetters number [] = number
-withLetters number (x ∷ rest) = withLetters (withLetter number x) rest
+withLetters number (x ∷ rest) = withLetters (withLetter number (caseless x)) rest
 
 unfoldable pub numberOf : List ℕ → ℕ
 numberOf name = withLetters (length name % 32) name
 
--- The slot of a number: where a name's slot is not marked, no earlier name has its number. 251 is a prime, so that every letter has a say.
+-- The slot of a number: where a name's slot is not marked, no earlier name has its number. 251 is no multiple of 37, so that every letter has a
+-- say in it.
 abbrev pub slots : ℕ
 slots = 251
 
