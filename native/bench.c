@@ -222,9 +222,11 @@ static void headers(void) {
 
 /* ---- the name check: headers of names that are unlike in one way */
 
-static const char *ways[] = {"unequal lengths", "one length, first letters", "one length, last letters", "one length, middle alone"};
+static const char *ways[] = {"unequal lengths", "one length, first letters", "one length, last letters", "one length, middle alone", "one length, one number"};
+#define WAYS (int)(sizeof ways / sizeof *ways)
 
-/* the name of column k, 0 to 127: of 1 to 24 bytes, or of 24 that differ in two neighbouring ones */
+/* the name of column k, 0 to 127: of 1 to 24 bytes, of 24 that differ in two neighbouring ones, or of 24 with seven that are 1 or q: these have the
+ * same five bits, so that all such names have one number */
 static void some_name(char name[25], int way, size_t k) {
     static const char letters[] = "abcdefghijklmnopqrstuvwxyz0123456789";
     size_t length = way == 0 ? 1 + k % 24 : 24;
@@ -232,6 +234,10 @@ static void some_name(char name[25], int way, size_t k) {
     name[length] = 0;
     if (way == 0) {
         name[0] = letters[k / 24];
+        return;
+    }
+    if (way == 4) {
+        for (int bit = 0; bit < 7; bit++) name[8 + bit] = k >> bit & 1 ? '1' : 'q';
         return;
     }
     size_t at = way == 1 ? 0 : way == 2 ? 23 : 11;
@@ -272,7 +278,7 @@ static void names(header_call before) {
     printf("\nHeaders by what their names differ in; check: longer than where the search ends at once\n%-28s %8s %10s %10s %7s %10s %10s", "", "columns", "ours ns",
            "C ns", "ratio", "check", "of C");
     printf(before ? " %10s %11s %10s %11s\n" : "\n", "before ns", "before/ours", "its check", "before/ours");
-    for (int way = 0; way < 4; way++)
+    for (int way = 0; way < WAYS; way++)
         for (int i = 0; i < 4; i++) {
             double best[3] = {1e9, 1e9, 1e9}, least[3] = {1e9, 1e9, 1e9};
             int many = (int)(4000 / some[i]);
