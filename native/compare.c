@@ -445,6 +445,30 @@ static void lose_ring(made_tile *m) {
         if (m->column[RING_PTR][f] > r + 1) m->column[RING_PTR][f]--;
 }
 
+/* a face 1 of no side before the others */
+static void gain_face(made_tile *m) {
+    size_t faces = m->length[RING_PTR]++;
+    memmove(m->column[RING_PTR] + 1, m->column[RING_PTR], faces * 4);
+    m->column[RING_PTR][0] = 1;
+    for (int c = RIGHT_FACE; c <= FAC_ID; c++)
+        if (c <= LEFT_FACE || c == FAC_ID)
+            for (size_t i = 0; i < m->length[c]; i++) m->column[c][i]++;
+}
+
+/* a ring row without a start edge: row 1, for face 1, or now and then another row or face; the pointers of later runs moved down */
+static void gain_null_ring(made_tile *m) {
+    if (chance(3)) gain_face(m);
+    size_t rings = m->length[FAC_ID], r = chance(8) ? below(rings + 1) : 0;
+    uint32_t face = chance(8) ? 1 + (uint32_t)below(m->length[RING_PTR]) : 1;
+    for (int c = FAC_ID; c <= START_EDGE; c++) {
+        memmove(m->column[c] + r + 1, m->column[c] + r, (rings - r) * 4);
+        m->column[c][r] = c == FAC_ID ? face : 0;
+        m->length[c]++;
+    }
+    for (size_t f = 0; f < m->length[RING_PTR]; f++)
+        if (m->column[RING_PTR][f] > r && f + 1 != face) m->column[RING_PTR][f]++;
+}
+
 static void some_tile(made_tile *m) {
     if (chance(12)) { /* arbitrary */
         size_t e = below(5), f = below(4), r = below(5), n = below(4);
@@ -462,6 +486,7 @@ static void some_tile(made_tile *m) {
     } else {
         rotation_tile(m, chance(60) ? 1 + below(300) : 1 + below(8));
     }
+    if (m->length[0] && m->length[RING_PTR] && m->length[FAC_ID] && chance(4)) gain_null_ring(m);
     if (chance(3)) return;
     if (chance(12)) {
         lose_ring(m);
@@ -501,6 +526,9 @@ static void two_buffers(uint32_t **a, uint32_t **b, size_t n) {
     for (size_t i = 0; i < n; i++) (*a)[i] = (*b)[i] = (uint32_t)draw();
 }
 
+/* the tiles with edges that were accepted with a ring without a start, and the walks of such rings */
+static unsigned long null_rings, null_walks;
+
 static void check_case(void) {
     made_tile m;
     uint32_t *ours, *theirs;
@@ -510,6 +538,7 @@ static void check_case(void) {
     tile32 t = lent(&m);
     vumbarete_verdict a = vumbarete_check(COLUMNS(m), ours, space), b = ref_check(&t, theirs, space);
     note(a.number);
+    null_rings += need && !a.number && m.column[START_EDGE][0] == 0;
     judge(SAME_REFUSAL(a, b) && memcmp(ours, theirs, (need + 8) * 4) == 0);
     free(ours), free(theirs), drop_tile(&m);
 }
@@ -524,6 +553,7 @@ static void walk_case(void) {
     tile32 t = lent(&m);
     vumbarete_steps a = vumbarete_walk(COLUMNS(m), row, ours, space), b = ref_walk(&t, row, theirs, space);
     note(a.number);
+    null_walks += need && !a.number && a.steps == 0;
     judge(SAME_REFUSAL(a, b) && SAME(a, b, steps) && memcmp(ours, theirs, (need + 8) * 4) == 0);
     free(ours), free(theirs), drop_tile(&m);
 }
@@ -752,6 +782,8 @@ int main(int argc, char **argv) {
     run("load", load_case, cases, seed);
     run("check", check_case, cases, seed);
     run("walk", walk_case, cases, seed);
+    printf("%-16s accepted in %lu tiles with edges, walked in %lu\n", "no start edge", null_rings, null_walks);
+    judge(cases < 1000 || (null_rings > 0 && null_walks > 0));
     limits();
     empty();
     printf("%lu passed, %lu failed\n", passed, failed);

@@ -575,10 +575,10 @@ static inline size_t successor(const tile32 *t, size_t s, uint32_t *wrong) {
     return on_left ? 2 * (size_t)link : (*wrong = 24, 0);
 }
 
-/* The start side of ring row r (from 1); 0 for the empty ring; SIZE_MAX where there is none (29). */
+/* The start side of ring row r (from 1); 0 for the empty ring, "start 0 in ring row 1 when its face is 1"; SIZE_MAX where there is none (29). */
 static size_t start_side(const tile32 *t, size_t r) {
     uint32_t e = t->start_edge.at[r - 1], f = t->fac_id.at[r - 1];
-    if (e == 0 && t->start_node.n == 0 && t->ring_ptr.n == 1 && t->fac_id.n == 1) return 0;
+    if (e == 0 && r == 1 && f == 1) return 0;
     if (!in(e, t->start_node.n)) return SIZE_MAX;
     if (t->right_face.at[e - 1] == f) return 2 * (size_t)e - 1;
     if (t->left_face.at[e - 1] == f) return 2 * (size_t)e;

@@ -240,7 +240,8 @@ vumbarete_verdict vumbarete_check(const uint32_t *start_node, size_t start_nodes
                                   uint32_t *marks, size_t marks_length);
 
 /* Walks from a ring row and writes the side numbers of its cycle, start side first; `out` beyond the steps is unchanged. The tests are
- * 15, 13, 29, at each move 22 (place: edge row) to 25 (place: side), 32, and 14 with the steps as the needed length last. */
+ * 15, 13, 29, at each move 22 (place: edge row) to 25 (place: side), 32, and 14 with the steps as the needed length last. Ring row 1 may
+ * have start edge 0 when its face is 1: it has 0 steps, and owns no side. */
 vumbarete_steps vumbarete_walk(const uint32_t *start_node, size_t start_nodes, const uint32_t *end_node, size_t end_nodes,
                                const uint32_t *right_face, size_t right_faces, const uint32_t *left_face, size_t left_faces,
                                const uint32_t *right_edge, size_t right_edges, const uint32_t *left_edge, size_t left_edges,

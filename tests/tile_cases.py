@@ -1,4 +1,4 @@
-"""Writes the cases of program tile_cases and what it must print for them, from document 01's rules as this script has them.
+"""Writes the cases of program tile_cases and what it must print for them, from document 01's rules, as No. 1 of 02 amends them, as this script has them.
 The rules are implemented here anew; what documents 000, 001 and 01 say of their tiles is asserted before anything is written."""
 from casefile import Cases, number, refused
 
@@ -74,11 +74,10 @@ def successor(t, side):
 
 def start_side(t, row):
     """The start side of a ring row, None for the empty ring, or Refused with 29."""
-    e, f, r, _ = counts(t)
     start, face = t.at("start_edge", row), t.at("fac_id", row)
-    if start == 0 and (e, f, r) == (0, 1, 1):
+    if (start, row, face) == (0, 1, 1):
         return None
-    if 1 <= start <= e:
+    if 1 <= start <= len(t["start_node"]):
         for side in (2 * start - 1, 2 * start):
             if face_of(t, side) == face:
                 return side
@@ -339,9 +338,6 @@ add("27 before 28", MJ21.but(first_edge={3: 0}, fac_id={1: 0}), says=refused(27,
 for value in (0, 4, 4294967295):
     add(f"start of ring 2 is {value}", MJ21.but(start_edge={2: value}), walks=[(2, 4), (1, 4)], says=refused(29, 2))
 add("start with another face", EIGHT.but(start_edge={4: 1}), walks=[(4, 4)], says=refused(29, 4))
-add("start 0 beside edges", DANGLING.but(start_edge=[0]), walks=[(1, 4)], says=refused(29, 1))
-add("start 0 in one of two rings", EMPTY.but(fac_id=[1, 1], start_edge=[0, 0]), walks=[(1, 4), (2, 4)], says=refused(29, 1))
-add("start 0 in a tile of two faces", EMPTY.but(ring_ptr=[1, 2], fac_id=[1, 2], start_edge=[0, 0]), walks=[(1, 4)], says=refused(29, 1))
 add("start 1 in a tile of no edges", EMPTY.but(start_edge=[1]), walks=[(1, 4)], says=refused(29, 1))
 add("start on both sides", DANGLING, walks=[(1, 2)], says=[2])
 add("28 before 29", MJ21.but(ring_ptr={2: 1}, start_edge={1: 0}), says=refused(28, 2))
@@ -352,6 +348,41 @@ add("29 of ring 5 before 30 of ring 4", TWICE.but(start_edge=[1, 1, 5, 6, 1, 6])
 add("an inner ring missing", EIGHT.but(ring_ptr=[1, 2, 3, 4], fac_id=[1, 2, 3, 4], start_edge=[1, 1, 5, 6]), says=refused(31, 10))
 add("an outer ring missing", EIGHT.but(ring_ptr=[1, 2, 3, 4], fac_id=[1, 2, 3, 4], start_edge=[1, 5, 5, 6]), says=refused(31, 1))
 add("30 before 31", TWICE.but(start_edge=[1, 5, 6, 5, 5, 6]), says=refused(30, 3))
+
+# --- start 0 in ring row 1 when its face is 1, whatever E is; elsewhere 0 stays 29 (document 02, No. 1) ---
+
+
+def ring_first(t, face=1, start=0):
+    """The tile with one more ring row before the others, and the pointers moved with the rows."""
+    ring_ptr = [p + (f != face) for f, p in enumerate(t["ring_ptr"], 1)]
+    return t.but(ring_ptr=ring_ptr, fac_id=[face] + t["fac_id"], start_edge=[start] + t["start_edge"])
+
+
+NO_FACE_1 = tile([(1, 1, 3, 2, 1, 1)], [1, 2, 3], [(1, 0), (2, 1), (3, 1)], [1])  # one loop, and no side of face 1
+add("start 0 before the ring of MJ21", ring_first(MJ21), says=[0, 3, 3])
+add("start 0 before one loop", ring_first(LOOP), says=[0, 1, 1])
+add("start 0 before one dangling edge", ring_first(DANGLING), says=[0, 2])
+add("start 0 before two loops at one node", ring_first(EIGHT), says=[0, 4, 4, 2, 1, 1])
+add("start 0 before table 21", ring_first(RENUMBERED), walks=[(1, 0), (1, 4), (2, 2), (3, 7)])
+add("start 0, and no side of face 1", NO_FACE_1, says=[0, 1, 1])
+add("start 0 walked into no output", ring_first(MJ21), walks=[(1, 0), (2, 0)])
+add("start 0 as the only ring of a face with sides", DANGLING.but(start_edge=[0]), walks=[(1, 0), (1, 4)], says=refused(31, 1))
+add("start 0 as the only ring of face 1", MJ21.but(start_edge=[0, 1]), walks=[(1, 4), (2, 4)], says=refused(31, 2))
+add("start 0 in ring row 1 of face 2", MJ21.but(ring_ptr=[3, 1], fac_id=[2, 2, 1], start_edge=[0, 1, 1]), walks=[(1, 4), (2, 4)], says=refused(29, 1))
+add("start 0 in ring row 2 of face 1", ring_first(MJ21, 1, 1).but(start_edge={2: 0}), walks=[(1, 4), (2, 4)], says=refused(29, 2))
+add("start 0 in ring rows 1 and 2 of face 1", ring_first(ring_first(MJ21)), walks=[(1, 4), (2, 4)], says=refused(29, 2))
+add("start 0 in ring rows 1 and 3", ring_first(MJ21).but(start_edge={3: 0}), walks=[(1, 4), (3, 4)], says=refused(29, 3))
+add("start 0 of face 1 behind face 2", MJ21.but(ring_ptr=[2, 1], fac_id=[2, 1], start_edge=[1, 0]), walks=[(2, 4)], says=refused(29, 2))
+add("start 0 in row 1 and a start past the edges", ring_first(MJ21).but(start_edge={2: 4}), says=refused(29, 2))
+add("start 0 in row 1, ring_ptr of face 1 behind it", ring_first(MJ21).but(ring_ptr={1: 2}), walks=[(1, 4)], says=refused(28, 1))
+add("start 0 in row 1, and the rest of its face behind face 2", ring_first(MJ21).but(fac_id=[1, 2, 1], ring_ptr=[1, 2]), says=refused(28, 1))
+add("start 0 in row 1, then one cycle twice", ring_first(ring_first(MJ21, 1, 1)), walks=[(1, 4), (3, 4)], says=refused(30, 3))
+add("start 0 in two rings of a tile of no edges", EMPTY.but(fac_id=[1, 1], start_edge=[0, 0]), walks=[(1, 4), (2, 4)], says=refused(29, 2))
+add("start 0 in a tile of two faces and no edges", EMPTY.but(ring_ptr=[1, 2], fac_id=[1, 2], start_edge=[0, 0]), walks=[(1, 4), (2, 4)],
+    says=refused(29, 2))
+add("start 0 of face 2 in a tile of no edges", EMPTY.but(fac_id=[2]), walks=[(1, 4)], says=refused(28, 1))
+add("start 0 of face 2 first in a tile of no edges", EMPTY.but(ring_ptr=[2, 1], fac_id=[2, 1], start_edge=[0, 0]), walks=[(1, 4), (2, 4)],
+    says=refused(29, 1))
 
 # --- walks of tiles that were not accepted ---
 

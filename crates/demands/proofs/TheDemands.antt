@@ -62,7 +62,7 @@ use Rattle.load.specs.declared.TableName.the-variants.{Edg}
 use Rattle.tile.specs.Columns.{Tile, R, sides}
 use Rattle.tile.specs.Walk.{walkOf, stepsOf, allSteps, sideAfter, ringSteps, ringSides}
 use Rattle.facts.specs.Demand.{Demand3 as Walked}
-use Rattle.facts.proofs.StartExactly.{start-side-exactly}
+use Rattle.facts.proofs.StartExactly.{start-side-exactly, start-zero-exactly}
 use Rattle.facts.proofs.WalkExactly as walk
 use Rattle.directory.specs.declared.AtFault.{AtFault}
 use Rattle.directory.specs.declared.Sizes.{Sizes}
@@ -162,6 +162,7 @@ walk-means : (t : Tile) (r : ℕ) → WalkMeans t r
 walk-means t r =
     record {
       start = start-side-exactly t r;
+      start-zero = start-zero-exactly t r;
       refused = walk.walk-refused-exactly t r;
       answered = walk.walk-answered-exactly t r;
       first-return = walk.steps-are-first-return t r;

@@ -7,14 +7,14 @@
 -- One record for each thing that has a meaning; `Demand2`, at the end, has them of all bytes and numbers.
 use mathlib.Core.Path.{_≡_}
 use mathlib.Core.Logic.{_↔_, _⊎_}
-use mathlib.Core.Bool.{true}
+use mathlib.Core.Bool.{true, false}
 use mathlib.Core.List.{List}
 use Prim.Native.Nat.{ℕ, suc, pred, _+_, _≤_, _<_}
 use denote.Ref.{RefT, now}
 use lib.Ieee.{Format}
 use lib.ListN.{length, getD, drop}
 use Rattle.laws.specs.Lowest.{In}
-use Rattle.laws.specs.Orbit.{iterate}
+use Rattle.laws.specs.Orbit.{entry, iterate}
 use Rattle.laws.specs.Partition.{Partition}
 use Rattle.laws.specs.Language.{LeavesAt}
 use Rattle.refusal.specs.declared.Refusal.{Refusal}
@@ -70,7 +70,7 @@ use Rattle.side.specs.Successor.{successor, Follows, Fault}
 use Rattle.tile.specs.declared.Verdict.the-variants as verdict
 use Rattle.tile.specs.declared.Walked.the-variants as walked
 use Rattle.tile.specs.Columns.{Tile, R, startSide}
-use Rattle.tile.specs.Check.{verdictOf}
+use Rattle.tile.specs.Check.{startWrong, verdictOf}
 use Rattle.tile.specs.Walk.{walkOf, sidesWritten}
 use Rattle.facts.specs.WalkWords as walk
 use Rattle.facts.specs.Facts as tile
@@ -257,6 +257,9 @@ pub record SuccessorMeans (t : Edges) (s : ℕ) : Type 0 where
 pub record WalkMeans (t : Tile) (r : ℕ) : Type 0 where
   -- "The start side is the one with the ring's face; if both have it, the right one."
   pub start : tile.StartsOnSide t r → (s : ℕ) → tile.StartSideIs t r s ↔ (startSide t r ≡ s)
+  -- document 02, No. 1, in place of 01's "Start 0 is allowed only in the one ring of a tile with E = 0 and F = 1.": "Accept start 0 in ring
+  -- row 1 when its face is 1, whatever E is. .. Elsewhere 0 stays refusal 29."
+  pub start-zero : entry (t .startEdge) r ≡ 0 → (startWrong t r ≡ false) ↔ ((r ≡ 1) × (entry (t .facId) r ≡ 1))
   -- "first tests 15, 13, 29, then at each move 22 to 25 ... With no return in 2E moves it gives 32; a short output gives 14 last"
   pub refused : (space n p : ℕ) → (walkOf t r space ≡ walked.Refused (refusal n p)) ↔ walk.WalkRefused t r space n p
   pub answered : (space k : ℕ) → (walkOf t r space ≡ walked.Steps k) ↔ walk.WalkAnswered t r space k

@@ -4,7 +4,10 @@
 -- no more than twice the edge count. Every edge side lies on exactly one ring's walk, and that ring bears the side's face. The reported steps
 -- of all rings add up to exactly twice the number of edges. A tile without edges has one empty ring and a sum of zero."
 --
--- `Walked t marks` has a field for each of these: it is `Demand3` of crate `tile` (specs/Demand.antt).
+-- Document 02, No. 1: "Accept start 0 in ring row 1 when its face is 1, whatever E is. Such a ring has 0 steps and owns no side; other rings
+-- follow in its face's run. .. Demand 3 then speaks of the rings with a start edge, and the sum stays twice the edge count."
+--
+-- `Walked t marks` has a field for each of these: it is `Demand3` of crate `facts` (specs/Demand.antt).
 use mathlib.Core.Path.{_≡_}
 use mathlib.Core.List.{List, _++_}
 use Prim.Native.Nat.{ℕ, _*_, _≤_}

@@ -1,4 +1,5 @@
--- P1 to P11 of document 01 hold: every case of the table, computed from the definitions that the operations' contracts are equations with.
+-- P1 to P11 of document 01 hold, and the cases of document 02: every case of the table, computed from the definitions that the operations'
+-- contracts are equations with.
 use mathlib.Core.Path.{refl}
 use lib.Dec.{eqb·suc-zero}
 use lib.ListN.{length}
@@ -53,4 +54,7 @@ all-hold =
     then (refl, refl)
     then (refl, refl)
     then (refl, refl)
+    -- No. 1
+    then (refl, refl)
+    then refl
     then tt

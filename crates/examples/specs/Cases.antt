@@ -1,5 +1,6 @@
 -- "Examples (P: proved, as one table under a single statement)": what each of P1 to P11 hands to a public operation, and what document 01
--- says is answered. The operations' contracts are equations with the definitions that stand here.
+-- says is answered; and after them what a request of document 02 asks for. The operations' contracts are equations with the definitions
+-- that stand here.
 use mathlib.Core.Path.{_≡_}
 use mathlib.Core.List.{List, [], _∷_, _++_, map}
 use Prim.Native.Nat.{ℕ}
@@ -96,10 +97,10 @@ All Such (c ∷ l) = Such c × All Such l
 abbrev pub ringTable : String
 ringTable = "L;Ring Table;-;id=I,1,P,Row Id,-,-,-,:fac_id=I,1,N,Face,-,-,-,:start_edge=I,1,N,Edge,-,-,-,:;"
 
--- "document 000, tile MJ21: edges 1 A-B, 2 B-C, 3 C-A; right face 2, left 1; right edges 2, 3, 1", by its left edges. "Rings for faces
--- 1 and 2 from edge 1"; "face ring pointers 1 and 2 and first edges 1, 1, 2". A, B and C are nodes 1, 2 and 3
-abbrev pub mj21 : List ℕ → Tile
-mj21 leftEdges =
+-- "document 000, tile MJ21: edges 1 A-B, 2 B-C, 3 C-A; right face 2, left 1; right edges 2, 3, 1", and "first edges 1, 1, 2", by its left
+-- edges, and by ring_ptr, fac_id and start_edge of its rings. A, B and C are nodes 1, 2 and 3
+abbrev pub mj21Rings : List ℕ → List ℕ → List ℕ → List ℕ → Tile
+mj21Rings leftEdges ringPtrs facIds startEdges =
     record {
       edg =
           record {
@@ -110,11 +111,15 @@ mj21 leftEdges =
             rightEdge = 2 ∷ 3 ∷ 1 ∷ [];
             leftEdge = leftEdges;
           };
-      ringPtr = 1 ∷ 2 ∷ [];
-      facId = 1 ∷ 2 ∷ [];
-      startEdge = 1 ∷ 1 ∷ [];
+      ringPtr = ringPtrs;
+      facId = facIds;
+      startEdge = startEdges;
       firstEdge = 1 ∷ 1 ∷ 2 ∷ [];
     }
+
+-- "Rings for faces 1 and 2 from edge 1"; "face ring pointers 1 and 2"
+abbrev pub mj21 : List ℕ → Tile
+mj21 leftEdges = mj21Rings leftEdges (1 ∷ 2 ∷ []) (1 ∷ 2 ∷ []) (1 ∷ 1 ∷ [])
 
 -- "one loop, right face 2, left 1, both links 1"; a ring for each face
 abbrev pub loop : Tile
@@ -181,4 +186,8 @@ cases =
     -- P11: "one dangling edge [..]: one ring of 2 steps": its right side, 1, then its left side, 2
     ∷ rings-of dangling (2 ∷ [])
     ∷ writes-of dangling 1 (1 ∷ 2 ∷ [])
+    -- document 02, No. 1: "Accept start 0 in ring row 1 when its face is 1, whatever E is. Such a ring has 0 steps and owns no side; other
+    -- rings follow in its face's run. Elsewhere 0 stays refusal 29": P8's tile with such a row, and with its start in row 2
+    ∷ rings-of (mj21Rings (3 ∷ 1 ∷ 2 ∷ []) (1 ∷ 3 ∷ []) (1 ∷ 1 ∷ 2 ∷ []) (0 ∷ 1 ∷ 1 ∷ [])) (0 ∷ 3 ∷ 3 ∷ [])
+    ∷ no-tile (mj21Rings (3 ∷ 1 ∷ 2 ∷ []) (1 ∷ 3 ∷ []) (1 ∷ 1 ∷ 2 ∷ []) (1 ∷ 0 ∷ 1 ∷ [])) (refusal 29 2)
     ∷ []

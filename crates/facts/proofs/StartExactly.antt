@@ -1,8 +1,10 @@
 -- "The start side is the one with the ring's face; if both have it, the right one.": where a side of a ring row's start edge has
--- its face, the start side that the definition works out is that of these words, and no other is.
+-- its face, the start side that the definition works out is that of these words, and no other is. And where start 0 is right.
 use mathlib.Core.Path.{_≡_, refl, sym, ap, _∙_}
 use mathlib.Core.Logic.{_↔_, inl, inr, ⊎-elim}
+use mathlib.Core.Bool.{false}
 use Prim.Native.Nat.{ℕ}
+use native.Mathlib.Omega.{arith}
 use borrow.Author.Tests.{eq-eqb, eqb-true, eqb-false}
 use lib.Dec.{eqb}
 use Rattle.laws.specs.Orbit.{entry}
@@ -10,7 +12,9 @@ use Rattle.laws.proofs.LowestLaws.{bool-cases}
 use Rattle.side.specs.Edges.{right, left, face}
 use Rattle.side.proofs.SuccessorExactly.{not-outside, right-or-left, edge-of-right, edge-of-left, face-of-right, face-of-left}
 use Rattle.tile.specs.Columns.{Tile, E, startSide}
+use Rattle.tile.specs.Check.{startWrong}
 use Rattle.facts.specs.Facts.{StartsOnSide, StartSideIs}
+use Rattle.facts.proofs.TestsInWords.{start-exactly}
 
 module _ (t : Tile) (r : ℕ) where
   -- the words hold of at most one side, that of the definition
@@ -62,3 +66,11 @@ module _ (t : Tile) (r : ℕ) where
   -- THE START SIDE, exactly
   pub start-side-exactly : StartsOnSide t r → (s : ℕ) → StartSideIs t r s ↔ (startSide t r ≡ s)
   start-side-exactly h s = (start-side-of s, λ e. rw e at (start-side-is h))
+
+  -- A START OF 0 IS RIGHT exactly in ring row 1 when its face is 1
+  pub start-zero-exactly : entry (t .startEdge) r ≡ 0 → (startWrong t r ≡ false) ↔ ((r ≡ 1) × (entry (t .facId) r ≡ 1))
+  start-zero-exactly z =
+      let w = start-exactly t r in (
+        λ e. ⊎-elim (λ h. (h .row-one, h .face-one)) (λ h. absurd (omega (arith, h .within))) (w .0 e),
+        λ h. w .1 (inl (record { no-start = z; row-one = h .0; face-one = h .1 })),
+      )

@@ -10,11 +10,11 @@ use borrow.Author.Tests.{ne-eqb, eqb-true, eqb-false, le-ltb, ltb-true, ltb-fals
 use lib.Dec.{eqb, ltb}
 use Rattle.laws.specs.Lowest.{lowest, In, Each, LowestFailing}
 use Rattle.laws.specs.Sums.{hits, Inj, Into}
-use Rattle.laws.specs.Orbit.{entry, meets, owner, firstDoubled, firstTaken, firstUnmet}
+use Rattle.laws.specs.Orbit.{entry, rowMeets, owner, firstDoubled, firstTaken, firstUnmet}
 use Rattle.laws.proofs.TestLaws.{or-false, and-false, and-true, denied, refuted, equal, not-unequal, nonzero}
 use Rattle.laws.proofs.LowestLaws.{bool-cases, lowest-some, lowest-pos}
 use Rattle.laws.proofs.SumLaws.{sum-most, hits-single, hits-some, hits-one, inj-of}
-use Rattle.laws.proofs.OrbitLaws.{meets-of, of-meets}
+use Rattle.laws.proofs.OrbitLaws.{row-meets, meets-of, of-meets}
 use Rattle.refusal.specs.Order.{refusal, refusedIf, located, lowestOf}
 use Rattle.refusal.proofs.JudgedLaws.{Judged, judged-lowest, none-found, judged-lowest-of, judged-once}
 use Rattle.side.specs.declared.Successor.{Successor}
@@ -29,7 +29,7 @@ use Rattle.tile.specs.Check.{refusedSide, sideRefusal, firstEdgeWrong, ringFace
 use Rattle.tile.proofs.RunsExactly.{broken-exactly}
 use Rattle.tile.proofs.SizeLaws.{sizes-right}
 use Rattle.facts.specs.Facts.{Sizes, NodesIn, FacesIn, LinksIn, Succeeded, OnePredecessor, NoTwoPredecessors, FirstEdgeTouches}
-use Rattle.facts.specs.Facts.{RingFaceIn, OneRun, EmptyRing, StartsOnSide, StartRight, Reaches, NotNamedBefore, OnARing}
+use Rattle.facts.specs.Facts.{RingFaceIn, OneRun, EmptyRing, StartsOnSide, StartRight, HasStart, Reaches, NotNamedBefore, OnARing}
 
 module _ (t : Tile) where
   -- ---- 15
@@ -192,10 +192,8 @@ module _ (t : Tile) where
   pub empty-exactly : (r : ℕ) → (emptyStart t r ≡ true) ↔ EmptyRing t r
   unfolding emptyStart
   empty-exactly r =
-      let w = and-true _ _ (equal (entry (t .startEdge) r) 0) (and-true _ _ (equal (E t) 0) (and-true _ _ (equal (F t) 1) (equal (R t) 1))) in (
-        λ e. let h = w .0 e in record { no-start = h .0; no-edges = h .1 .0; one-face = h .1 .1 .0; one-ring = h .1 .1 .1 },
-        λ h. w .1 (h .no-start, (h .no-edges, (h .one-face, h .one-ring))),
-      )
+      let w = and-true _ _ (equal (entry (t .startEdge) r) 0) (and-true _ _ (equal r 1) (equal (entry (t .facId) r) 1)) in
+      (λ e. let h = w .0 e in record { no-start = h .0; row-one = h .1 .0; face-one = h .1 .1 }, λ h. w .1 (h .no-start, (h .row-one, h .face-one)))
 
   -- the start side is one of the tile, and "the one with the ring's face"
   pub record Placed (r s : ℕ) : Type 0 where
@@ -248,27 +246,43 @@ module _ (t : Tile) where
       (λ n p. (n ≡ 29) × LowestFailing (R t) (StartRight t) p)
   judged-starts = judged-lowest (StartRight t) (R t) 29 (λ e. omega arith) (startWrong t) (λ r i. start-exactly r)
 
-  -- where there is no empty ring, every start is a side
-  pub start-placed : Each (R t) (StartRight t) → (r : ℕ) → In (R t) r → (EmptyRing t r → ⊥) → Placed r (startSide t r)
-  start-placed h r i no-empty = ⊎-elim (λ w. absurd (no-empty w)) (placed r) (h r i)
+  -- the ring rows without a start edge have no start side, those with one have it where every start is right, and none lies past 2E
+  pub no-start-side : (r : ℕ) → entry (t .startEdge) r ≡ 0 → startSide t r ≡ 0
+  no-start-side r e = ⊎-elim (λ w. w .0) (λ w. absurd (omega (arith, w .0 .within))) (start-side r)
+
+  pub has-start : (r : ℕ) → 0 < startSide t r → HasStart t r
+  has-start r p = ⊎-elim (λ w. absurd (omega (arith, w .0))) (λ w. w .0 .within .0) (start-side r)
+
+  pub start-placed : Each (R t) (StartRight t) → (r : ℕ) → In (R t) r → HasStart t r → Placed r (startSide t r)
+  start-placed h r i some = ⊎-elim (λ w. absurd (omega (arith, w .no-start))) (placed r) (h r i)
+
+  pub start-within : (r : ℕ) → startSide t r ≤ sides t
+  start-within r = ⊎-elim (λ w. omega (arith, w .0)) (λ w. w .1 .within) (start-side r)
 
   -- ---- 30, 31: where each side has exactly one predecessor, the walks are cycles, and a side is met within 2E moves or never
   pub single : Each (sides t) (Succeeded t) → Each (sides t) (OnePredecessor t) → Inj (after (t .edg)) (sides t)
   single w h i j a b c d e = let g = goes w j c d in not-two (after (t .edg) j) (h (after (t .edg) j) g) i j (a, b) (c, d) e refl
 
   module _ (w : Each (sides t) (Succeeded t)) (o : Each (sides t) (OnePredecessor t)) (st : Each (R t) (StartRight t)) where
-    meets-exactly : (q s : ℕ) → Placed q (startSide t q) → (meets (after (t .edg)) (sides t) (startSide t q) s ≡ true) ↔ Reaches t q s
-    meets-exactly q s h = (
-      of-meets (after (t .edg)) (sides t) (goes w) (single w o) (startSide t q) (h .pos) (h .within) s,
-      λ k. meets-of (after (t .edg)) (sides t) (goes w) (single w o) (startSide t q) (h .pos) (h .within) (k .0) s (k .1),
-    )
+    pub meets-exactly : (q s : ℕ) → In (R t) q → (rowMeets (after (t .edg)) (sides t) (startSide t) s q ≡ true) ↔ Reaches t q s
+    meets-exactly q s j =
+        let f = after (t .edg) in
+        let rows = row-meets f (sides t) (startSide t) s q in (
+          λ e.
+              let m = rows .0 e in
+              let k = of-meets f (sides t) (goes w) (single w o) (startSide t q) (m .0) (start-within q) s (m .1) in
+              record { has-start = has-start q (m .0); moves = k .0; comes-to = k .1 },
+          λ h.
+              let p = start-placed st q j (h .has-start) in
+              rows .1 (p .pos, meets-of f (sides t) (goes w) (single w o) (startSide t q) (p .pos) (p .within) (h .moves) s (h .comes-to)),
+        )
 
     pub named-exactly : (r : ℕ) → In (R t) r
         → (ltb 0 (owner (after (t .edg)) (sides t) (startSide t) (pred r) (startSide t r)) ≡ false) ↔ NotNamedBefore t r
     named-exactly r i =
         let w =
-        none-found (λ q. Reaches t q (startSide t r) → ⊥) (pred r) (λ q. meets (after (t .edg)) (sides t) (startSide t q) (startSide t r))
-        (λ q j. refuted _ (meets-exactly q (startSide t r) (start-placed st q (j .0, omega arith) (λ z. omega (arith, z .one-ring))))) in
+        none-found (λ q. Reaches t q (startSide t r) → ⊥) (pred r) (rowMeets (after (t .edg)) (sides t) (startSide t) (startSide t r))
+        (λ q j. refuted _ (meets-exactly q (startSide t r) (j .0, omega arith))) in
         (λ e q a b. w .0 e q (a, omega arith), λ h. w .1 (λ q j. h q (j .0) (omega arith)))
 
     pub judged-named : Judged (located 30 (firstTaken (after (t .edg)) (sides t) (startSide t) (R t)))
@@ -278,12 +292,10 @@ module _ (t : Tile) where
 
     pub covered-exactly : (s : ℕ) → In (sides t) s → (eqb (owner (after (t .edg)) (sides t) (startSide t) (R t) s) 0 ≡ false) ↔ OnARing t s
     covered-exactly s i =
-        let on : ℕ → Bool = λ q. meets (after (t .edg)) (sides t) (startSide t q) s in
-        let exact : (q : ℕ) → In (R t) q → (on q ≡ true) ↔ Reaches t q s = λ q j.
-        meets-exactly q s (start-placed st q j (λ z. omega (arith, z .no-edges))) in (
+        let on : ℕ → Bool = rowMeets (after (t .edg)) (sides t) (startSide t) s in (
           λ e. let h = lowest-pos on (R t) (nonzero _ .0 e) in
-              (lowest on (R t), (h .pos, h .within), exact (lowest on (R t)) (h .pos, h .within) .0 (h .passes)),
-          λ h. nonzero _ .1 (lowest-some on (R t) (h .0) (h .1 .0) (h .1 .1) (exact (h .0) (h .1) .1 (h .2))),
+              (lowest on (R t), (h .pos, h .within), meets-exactly (lowest on (R t)) s (h .pos, h .within) .0 (h .passes)),
+          λ h. nonzero _ .1 (lowest-some on (R t) (h .0) (h .1 .0) (h .1 .1) (meets-exactly (h .0) s (h .1) .1 (h .2))),
         )
 
     pub judged-covered : Judged (located 31 (firstUnmet (after (t .edg)) (sides t) (startSide t) (R t)))

@@ -34,14 +34,14 @@ use Rattle.side.proofs.SuccessorExactly.{not-outside, Says, says, successor-fol
 use Rattle.side.proofs.SuccessorExactly.{after-side, side-after, after-zero, fault-wrong, fault-number, link-wrong}
 use Rattle.tile.specs.Columns.{Tile, R, sides, startSide}
 use Rattle.tile.specs.Check.{sizesWrong, startWrong}
-use Rattle.facts.specs.Facts.{Sizes, EmptyRing, StartsOnSide}
+use Rattle.facts.specs.Facts.{Sizes, StartsOnSide}
 use Rattle.tile.specs.Walk.{Moves, Back, Open, Stuck, stuckAt, movesFrom, moves, walked, walkOf, sideAfter, sidesWritten}
 use Rattle.facts.specs.WalkWords.{Path, FirstReturn, Reached, NoReturn, Begins}
 use Rattle.facts.specs.WalkWords.{WalkRefused, sizes-wrong, no-such-ring, start-wrong, link-outside, no-successor, does-not-close, short-output}
 use Rattle.facts.specs.WalkWords.{WalkAnswered, empty-ring, returned, Writes}
 use Rattle.tile.specs.declared.Walked.{Walked}
 use Rattle.tile.specs.declared.Walked.the-variants.{Steps, Refused}
-use Rattle.facts.proofs.TestsInWords.{sizes-exactly, start-side, placed, start-exactly}
+use Rattle.facts.proofs.TestsInWords.{sizes-exactly, start-side, no-start-side, placed, start-exactly}
 use Rattle.facts.proofs.StartExactly.{start-side-of, starts-on, start-side-is}
 use Rattle.tile.proofs.WalkLaws.{cannot-move, back-home, moves-on, stays-open}
 
@@ -206,9 +206,6 @@ module _ (t : Tile) (r : ℕ) where
   on-side : (a : ℕ) → Begins t r a → StartsOnSide t r
   on-side a b = starts-on t r a (b .start)
 
-  no-start-side : EmptyRing t r → startSide t r ≡ 0
-  no-start-side none = ⊎-elim (λ h. h .0) (λ h. absurd (omega (arith, h .0 .within, none .no-edges))) (start-side t r)
-
   -- where 15, 13 and 29 pass and there is a start side, the moves decide
   walk-moves : (space a : ℕ) → Begins t r a → walkOf t r space ≡ walked r space (moves (t .edg) a)
   unfolding walkOf
@@ -252,7 +249,7 @@ module _ (t : Tile) (r : ℕ) where
       (λ m.
       ⊎-elim
       (λ none.
-      rw (w, o, m, eq-eqb (startSide t r) 0 (no-start-side none)) (empty-ring sized i none))
+      rw (w, o, m, eq-eqb (startSide t r) 0 (no-start-side t r (none .no-start))) (empty-ring sized i none))
       (λ on.
       let q = placed t r on in
       let b : Begins t r (startSide t r) = record { sizes = sized; ring = i; start = start-side-is t r on } in
@@ -283,7 +280,7 @@ module _ (t : Tile) (r : ℕ) where
   words-answered : (space k : ℕ) → WalkAnswered t r space k → walkOf t r space ≡ Steps k
   unfolding walkOf
   words-answered space k (empty-ring s i none) =
-      rw (sizes-exactly t .1 s, not-outside (R t) r .1 i, start-exactly t r .1 (inl none), eq-eqb (startSide t r) 0 (no-start-side none))
+      rw (sizes-exactly t .1 s, not-outside (R t) r .1 i, start-exactly t r .1 (inl none), eq-eqb (startSide t r) 0 (no-start-side t r (none .no-start)))
   words-answered space k (returned a j b h l) =
       walk-moves space a b ∙ ap (walked r space) (counts-the-return (t .edg) a j h) ∙ rw (le-ltb space j l)
 
@@ -298,7 +295,7 @@ module _ (t : Tile) (r : ℕ) where
   -- THE STEPS ARE THE FIRST RETURN of the start side under the successor, given room, of a tile accepted or not whose 15 and 13
   -- pass; where there is a start side 29 passes too
   first-return-of : (space k : ℕ) → (startSide t r ≡ 0 → ⊥) → WalkAnswered t r space k → FirstReturn (t .edg) (startSide t r) k
-  first-return-of space k some (empty-ring s i none) = absurd (some (no-start-side none))
+  first-return-of space k some (empty-ring s i none) = absurd (some (no-start-side t r (none .no-start)))
   first-return-of space k some (returned a j b h l) = rw (start-side-of t r a (b .start)) h
 
   pub steps-are-first-return : Sizes t → In (R t) r → (startSide t r ≡ 0 → ⊥) → (space k : ℕ) → k ≤ space

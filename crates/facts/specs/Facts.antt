@@ -62,12 +62,12 @@ RingFaceIn t r = In (F t) (entry (t .facId) r)
 abbrev pub OneRun : Tile → ℕ → Type 0
 OneRun t f = OneRunFrom (t .facId) f (entry (t .ringPtr) f)
 
--- "every start (29)": the allowed 0, or an edge of which a side has the ring's face
+-- "every start (29)": the allowed 0, or an edge of which a side has the ring's face. The allowed 0, after document 02, No. 1: "Accept start 0
+-- in ring row 1 when its face is 1, whatever E is. .. Elsewhere 0 stays refusal 29."
 pub record EmptyRing (t : Tile) (r : ℕ) : Type 0 where
   pub no-start : entry (t .startEdge) r ≡ 0
-  pub no-edges : E t ≡ 0
-  pub one-face : F t ≡ 1
-  pub one-ring : R t ≡ 1
+  pub row-one : r ≡ 1
+  pub face-one : entry (t .facId) r ≡ 1
 
 pub record StartsOnSide (t : Tile) (r : ℕ) : Type 0 where
   pub within : In (E t) (entry (t .startEdge) r)
@@ -83,9 +83,15 @@ pub record StartSideIs (t : Tile) (r s : ℕ) : Type 0 where
 abbrev pub StartRight : Tile → ℕ → Type 0
 StartRight t r = EmptyRing t r ⊎ StartsOnSide t r
 
--- some number of moves from the start of ring row q comes to the side s
-abbrev pub Reaches : Tile → ℕ → ℕ → Type 0
-Reaches t q s = (k : ℕ) × (iterate (after (t .edg)) k (startSide t q) ≡ s)
+-- "the rings with a start edge" (document 02, No. 1)
+abbrev pub HasStart : Tile → ℕ → Type 0
+HasStart t r = 0 < entry (t .startEdge) r
+
+-- ring row q has a start edge, and some number of moves from its start side comes to the side s: the cycle that the ring names has it
+pub record Reaches (t : Tile) (q s : ℕ) : Type 0 where
+  pub has-start : HasStart t q
+  pub moves : ℕ
+  pub comes-to : iterate (after (t .edg)) moves (startSide t q) ≡ s
 
 -- "no cycle named by two rings (30)": no earlier ring's cycle has the start of ring row r
 abbrev pub NotNamedBefore : Tile → ℕ → Type 0

@@ -12,13 +12,14 @@ use borrow.Author.Tests.{eq-eqb, ne-eqb, lt-ltb, le-ltb, ltb-false}
 use lib.Dec.{eqb, ltb}
 use lib.ListN.{length, getD, set}
 use Rattle.laws.specs.Lowest.{lowest, None}
-use Rattle.laws.specs.Orbit.{entry, iterate, meets, firstReturn, owner, firstTaken, firstUnmet, firstDoubled}
+use Rattle.laws.specs.Orbit.{entry, iterate, meets, firstReturn, Starts, rowMeets, owner, firstTaken, firstUnmet, firstDoubled}
 use Rattle.laws.specs.Buffer.{front}
 use Rattle.laws.specs.Sums.{Inj, Into, hits}
-use Rattle.laws.specs.Marks.{zeros, count, painted, ownerAt, alreadyMet, Starts}
+use Rattle.laws.specs.Marks.{zeros, count, painted, ownerAt, alreadyMet}
 use Rattle.laws.proofs.SumLaws.{inj-of}
-use Rattle.laws.proofs.LowestLaws.{none-next, lowest-next, lowest-none, lowest-ext, lowest-zero}
+use Rattle.laws.proofs.LowestLaws.{bool-cases, none-next, lowest-next, lowest-none, lowest-ext, lowest-zero}
 use Rattle.laws.proofs.BufferLaws.{front-low, front-put, front-of, front-ext, front-over}
+use Rattle.laws.proofs.TestLaws.{nonzero}
 use Rattle.laws.proofs.OrbitLaws.{iterate-in, meets-hit, meets-miss, meets-round, from-zero, never-zero, paint-row}
 
 pub single : (f : ℕ → ℕ) (n : ℕ) → Into f n n → firstDoubled f n ≡ 0 → Inj f n
@@ -110,17 +111,17 @@ module _ (f : ℕ → ℕ) (n : ℕ) (st : ℕ → ℕ) (R : ℕ) (m m₀ : List
     (ownerAt f n st r) n m₀) (N : None (alreadyMet f n st) r) where
   no-owner : st (suc r) ≡ 0 → owner f n st r (st (suc r)) ≡ 0
   no-owner e =
-      lowest-none (λ p. meets f n (st p) (st (suc r))) r
+      lowest-none (rowMeets f n st (st (suc r))) r
       (λ p a b.
-      by-cases (decLe 1 (st p))
-      (λ c. ap (meets f n (st p)) e ∙ never-zero f n w n (st p) c (v .within p a (omega arith)))
-      (λ c. let z : n ≡ 0 = v .alone p (suc r) a (omega arith) h (omega arith) e in ap (λ (k : ℕ). meets f k (st p) (st (suc r))) z))
+      bool-cases (eqb (st p) 0)
+      (λ c. rw c)
+      (λ c. rw c (ap (meets f n (st p)) e ∙ never-zero f n w n (st p) (nonzero (st p) .0 c) (v p a (omega arith)))))
 
   -- the mark at the start is its owner so far
   own-read : entry m (st (suc r)) ≡ owner f n st r (st (suc r))
   own-read =
       by-cases (decLe 1 (st (suc r)))
-      (λ c. entry-front (owner f n st r) n m₀ m q (st (suc r)) c (v .within (suc r) (omega arith) h))
+      (λ c. entry-front (owner f n st r) n m₀ m q (st (suc r)) c (v (suc r) (omega arith) h))
       (λ c. let e : st (suc r) ≡ 0 = omega arith in ap (entry m) e ∙ sym (no-owner e))
 
   pub own-taken : (entry m (st (suc r)) ≡ 0 → ⊥) → r + 1 ≡ firstTaken f n st R
@@ -140,4 +141,4 @@ module _ (f : ℕ → ℕ) (n : ℕ) (st : ℕ → ℕ) (R : ℕ) (m m₀ : List
       ∙ front-ext P (ownerAt f n st (suc r)) n m₀
       (λ j b.
       let y : getD m j 0 ≡ ownerAt f n st r j = ap (λ (t : List ℕ). getD t j 0) q ∙ front-low (ownerAt f n st r) n m₀ j b in
-      rw (add-one, y) (paint-row f n w i o st r (λ c d g. v .within c d (omega arith)) (sym own-read ∙ z) (suc j) (omega arith))))
+      rw (add-one, y) (paint-row f n w i o st r (λ c d g. v c d (omega arith)) (sym own-read ∙ z) (suc j) (omega arith))))

@@ -1,19 +1,20 @@
 -- Cycles of an injective map of 1..n into itself.
 use mathlib.Core.Path.{_≡_, refl, sym, ap, _∙_}
-use mathlib.Core.Logic.{by-cases, _⊎_, ⊎-elim}
+use mathlib.Core.Logic.{_↔_, by-cases, ⊎-elim}
 use mathlib.Core.Bool.{Bool, true, false, cond, true≢false}
 use Prim.Native.Nat.{ℕ, zero, suc, pred, _+_, _-_, _≤_, _<_}
 use native.Mathlib.Nat.{le-refl, zero-add, suc-add}
 use native.Mathlib.Decide.{decLe, decLt}
 use native.Mathlib.Numerals.{add-one}
 use native.Mathlib.Omega.{arith}
-use borrow.Author.Tests.{eqb-true, eqb-false, eq-eqb, ne-eqb, lt-ltb, le-ltb, ltb-true, ltb-false}
+use borrow.Author.Tests.{eqb-true, eq-eqb, ne-eqb, lt-ltb, ltb-true}
 use lib.Dec.{eqb, ltb}
 use Rattle.laws.specs.Lowest.{firstNonzero, lowest, At}
 use Rattle.laws.specs.Sums.{bit, sum, hits, Inj, Into}
-use Rattle.laws.specs.Orbit.{iterate, firstReturn, meets, owner, firstTaken, firstUnmet}
+use Rattle.laws.specs.Orbit.{iterate, firstReturn, meets, Starts, rowMoves, rowMeets, owner, firstTaken, firstUnmet}
 use Rattle.laws.proofs.LowestLaws.{bool-cases, nonzero-zero, lowest-cases, lowest-pos, lowest-zero, lowest-some, lowest-none, lowest-is}
 use Rattle.laws.proofs.SumLaws.{sum-ext, sum-one, sum-none, sum-hits, pigeon}
+use Rattle.laws.proofs.TestLaws.{nonzero, neither-true, cond-same}
 
 pub iterate-add : (f : ℕ → ℕ) (a b s : ℕ) → iterate f (a + b) s ≡ iterate f a (iterate f b s)
 iterate-add f zero b s = ap (λ (k : ℕ). iterate f k s) (zero-add b)
@@ -43,6 +44,13 @@ from-zero f z n s a = ap (ltb 0) (lowest-none (λ k. eqb (iterate f k 0) s) n
 pub never-zero : (f : ℕ → ℕ) (n : ℕ) → Into f n n → (m a : ℕ) → 0 < a → a ≤ n → meets f m a 0 ≡ false
 never-zero f n g m a x y = ap (ltb 0) (lowest-none (λ k. eqb (iterate f k a) 0) m
     (λ k u v. ne-eqb (iterate f k a) 0 (λ e. omega (arith, iterate-in f n g k a x y .0))))
+
+-- a row meets a place where it has a start and the walk from there meets it
+pub row-meets : (f : ℕ → ℕ) (n : ℕ) (st : ℕ → ℕ) (s r : ℕ) → (rowMeets f n st s r ≡ true) ↔ ((0 < st r) × (meets f n (st r) s ≡ true))
+row-meets f n st s r = (
+  λ e. let w = neither-true (eqb (st r) 0) (meets f n (st r) s) e in (nonzero (st r) .0 (w .0), w .1),
+  λ h. rw (nonzero (st r) .1 (h .0)) (h .1),
+)
 
 module _ (f : ℕ → ℕ) (n : ℕ) (g : Into f n n) (h : Inj f n) where
   iterate-cancel : (k s t : ℕ) → 0 < s → s ≤ n → 0 < t → t ≤ n → iterate f k s ≡ iterate f k t → s ≡ t
@@ -172,69 +180,79 @@ module _ (f : ℕ → ℕ) (n : ℕ) (g : Into f n n) (h : Inj f n) where
 
   -- a row r + 1 whose start no earlier row's walk meets: its walk is marked with it, and no mark of an earlier row is lost.
   -- A row whose start is 0 has no place of 1..n, since 0 leads to 0
-  pub paint-row : f 0 ≡ 0 → (st : ℕ → ℕ) (r : ℕ) → ((q : ℕ) → 0 < q → q ≤ suc r → st q ≤ n) → owner f n st r (st (suc r)) ≡ 0
+  pub paint-row : f 0 ≡ 0 → (st : ℕ → ℕ) (r : ℕ) → Starts n st (suc r) → owner f n st r (st (suc r)) ≡ 0
       → (s : ℕ) → 0 < s → cond (meets f n (st (suc r)) s) (suc r) (owner f n st r s) ≡ owner f n st (suc r) s
   paint-row none st r starts free s pos =
       bool-cases (meets f n (st (suc r)) s)
       (λ c.
       let S : 0 < st (suc r) = some-start none (st (suc r)) s pos c in
+      let B = starts (suc r) (omega arith) (le-refl (suc r)) in
       let z : owner f n st r s ≡ 0 =
-      lowest-none (λ q. meets f n (st q) s) r
+      lowest-none (rowMeets f n st s) r
       (λ q u v.
-      bool-cases (meets f n (st q) s)
+      bool-cases (rowMeets f n st s q)
       (λ d.
-      let Q : 0 < st q = some-start none (st q) s pos d in
+      let Q = row-meets f n st s q .0 d in
       absurd
       (true≢false
       (sym
-      (same-round (st q) Q (starts q u (omega arith)) (st (suc r)) S (starts (suc r) (omega arith) (le-refl (suc r))) s (st (suc r)) d c
-      (meets-of (st (suc r)) S (starts (suc r) (omega arith) (le-refl (suc r))) 0 (st (suc r)) refl))
-      ∙ lowest-zero (λ q. meets f n (st q) (st (suc r))) r free .fails q u v)))
+      (row-meets f n st (st (suc r)) q .1 (
+        Q .0,
+        same-round (st q) (Q .0) (starts q u (omega arith)) (st (suc r)) S B s (st (suc r)) (Q .1) c (meets-of (st (suc r)) S B 0 (st (suc r)) refl),
+      ))
+      ∙ lowest-zero (rowMeets f n st (st (suc r))) r free .fails q u v)))
       (λ d. d)) in
-      rw (z, c))
-      (λ c. rw c (sym (nonzero-zero (owner f n st r s))))
+      rw (z, c, nonzero (st (suc r)) .1 S))
+      (λ c. rw (c, cond-same (eqb (st (suc r)) 0) false) (sym (nonzero-zero (owner f n st r s))))
 
-  module _ (st : ℕ → ℕ) (R : ℕ) (starts : Into st R n) (once : firstTaken f n st R ≡ 0) where
-    -- EXACTLY ONE ROW: a row whose walk meets s is the owner of s
-    pub owner-is : (r s : ℕ) → 0 < r → r ≤ R → meets f n (st r) s ≡ true → owner f n st R s ≡ r
-    owner-is r s a b e =
-        lowest-is (λ q. meets f n (st q) s) R r a b e
-        (λ k u v.
-        bool-cases (meets f n (st k) s)
-        (λ t.
-        let S = starts r a b in
-        let K = starts k u (omega arith) in
-        let m : meets f n (st k) (st r) ≡ true = same-round (st k) (K .0) (K .1) (st r) (S .0) (S .1) s (st r) t e
-        (meets-of (st r) (S .0) (S .1) 0 (st r) refl) in
-        let z = lowest-zero (λ r. ltb 0 (owner f n st (pred r) (st r))) R once in
-        absurd
-        (true≢false
-        (sym (lt-ltb 0 (owner f n st (pred r) (st r))
-        (lowest-some (λ q. meets f n (st q) (st r)) (pred r) k u (omega arith) m)) ∙ z .fails r a b)))
-        (λ t. t))
+  module _ (st : ℕ → ℕ) (R : ℕ) (starts : Starts n st R) where
+    -- a row's walk has as many moves as it meets places: none of either where it has no start
+    pub row-size : (r : ℕ) → 0 < r → r ≤ R → sum (λ s. bit (rowMeets f n st s r)) n ≡ rowMoves f n st r
+    row-size r a b =
+        bool-cases (eqb (st r) 0)
+        (λ c. rw c (sum-none (λ s. false) n (λ s u v. refl)))
+        (λ c. rw c (round-size (st r) (nonzero (st r) .0 c) (starts r a b)))
 
-    pub owner-on : (r s : ℕ) → 0 < r → owner f n st R s ≡ r → meets f n (st r) s ≡ true
-    owner-on r s a e = rw e at (lowest-pos (λ q. meets f n (st q) s) R (rw e a) .passes)
+    module _ (once : firstTaken f n st R ≡ 0) where
+      -- EXACTLY ONE ROW: a row whose walk meets s is the owner of s
+      pub owner-is : (r s : ℕ) → 0 < r → r ≤ R → rowMeets f n st s r ≡ true → owner f n st R s ≡ r
+      owner-is r s a b e =
+          let M = row-meets f n st s r .0 e in
+          lowest-is (rowMeets f n st s) R r a b e
+          (λ k u v.
+          bool-cases (rowMeets f n st s k)
+          (λ t.
+          let K = row-meets f n st s k .0 t in
+          let m : meets f n (st k) (st r) ≡ true = same-round (st k) (K .0) (starts k u (omega arith)) (st r) (M .0) (starts r a b) s (st r)
+          (K .1) (M .1) (meets-of (st r) (M .0) (starts r a b) 0 (st r) refl) in
+          let z = lowest-zero (λ r. ltb 0 (owner f n st (pred r) (st r))) R once in
+          absurd
+          (true≢false
+          (sym (lt-ltb 0 (owner f n st (pred r) (st r))
+          (lowest-some (rowMeets f n st (st r)) (pred r) k u (omega arith) (row-meets f n st (st r) k .1 (K .0, m)))) ∙ z .fails r a b)))
+          (λ t. t))
 
-    -- THE SUM of the rows' moves
-    pub sum-law : firstUnmet f n st R ≡ 0 → sum (λ r. firstReturn f n (st r)) R ≡ n
-    sum-law none =
-        sum-ext (λ r. firstReturn f n (st r)) (hits (owner f n st R) n) R
-        (λ r a b.
-        let S = starts r a b in
-        sym (round-size (st r) (S .0) (S .1))
-        ∙ sum-ext (λ s. bit (meets f n (st r) s)) (λ s. bit (eqb r (owner f n st R s))) n
-        (λ s u v.
-        ap bit
-        (bool-cases (meets f n (st r) s)
-        (λ c. c ∙ sym (eq-eqb r _ (sym (owner-is r s a b c))))
-        (λ c. c ∙ sym (ne-eqb r _ (λ z. true≢false (sym (owner-on r s a (sym z)) ∙ c)))))))
-        ∙ sum-hits (owner f n st R) n R
-        (λ s u v.
-        ⊎-elim
-        (λ c. absurd (true≢false (sym (eq-eqb (owner f n st R s) 0 (c .0)) ∙ lowest-zero (λ s. eqb (owner f n st R s) 0) n none .fails s u v)))
-        (λ c. (c .pos, c .within))
-        (lowest-cases (λ q. meets f n (st q) s) R))
+      pub owner-on : (r s : ℕ) → 0 < r → owner f n st R s ≡ r → rowMeets f n st s r ≡ true
+      owner-on r s a e = rw e at (lowest-pos (rowMeets f n st s) R (rw e a) .passes)
+
+      -- THE SUM of the rows' moves
+      pub sum-law : firstUnmet f n st R ≡ 0 → sum (rowMoves f n st) R ≡ n
+      sum-law none =
+          sum-ext (rowMoves f n st) (hits (owner f n st R) n) R
+          (λ r a b.
+          sym (row-size r a b)
+          ∙ sum-ext (λ s. bit (rowMeets f n st s r)) (λ s. bit (eqb r (owner f n st R s))) n
+          (λ s u v.
+          ap bit
+          (bool-cases (rowMeets f n st s r)
+          (λ c. c ∙ sym (eq-eqb r _ (sym (owner-is r s a b c))))
+          (λ c. c ∙ sym (ne-eqb r _ (λ z. true≢false (sym (owner-on r s a (sym z)) ∙ c)))))))
+          ∙ sum-hits (owner f n st R) n R
+          (λ s u v.
+          ⊎-elim
+          (λ c. absurd (true≢false (sym (eq-eqb (owner f n st R s) 0 (c .0)) ∙ lowest-zero (λ s. eqb (owner f n st R s) 0) n none .fails s u v)))
+          (λ c. (c .pos, c .within))
+          (lowest-cases (rowMeets f n st s) R))
 
 -- as a loop has it, at `k + 1`
 pub iterate-next : (f : ℕ → ℕ) (k s x y : ℕ) → x ≡ iterate f k s → y ≡ f x → y ≡ iterate f (k + 1) s

@@ -1,12 +1,10 @@
 -- What a loop leaves in a buffer of marks, one for each of 1..n: counts of predecessors, a painted walk, owners.
-use mathlib.Core.Path.{_≡_}
 use mathlib.Core.Bool.{Bool, cond}
 use mathlib.Core.List.{List}
-use Prim.Native.Nat.{ℕ, zero, suc, pred, min, _≤_, _<_}
+use Prim.Native.Nat.{ℕ, suc, pred, min}
 use lib.Dec.{ltb}
 use lib.ListN.{getD}
 use Rattle.laws.specs.Sums.{hits}
-use Rattle.laws.specs.Buffer.{front}
 use Rattle.laws.specs.Orbit.{meets, owner}
 
 abbrev pub zeros : ℕ → ℕ
@@ -28,8 +26,3 @@ ownerAt f n st r k = owner f n st r (suc k)
 -- the test of a row: an earlier walk meets its start
 abbrev pub alreadyMet : (ℕ → ℕ) → ℕ → (ℕ → ℕ) → ℕ → Bool
 alreadyMet f n st r = ltb 0 (owner f n st (pred r) (st r))
-
--- the starts of the rows 1..R: places of 1..n, or 0 for a row that has none; where there are places, at most one row has none
-pub record Starts (n : ℕ) (st : ℕ → ℕ) (R : ℕ) : Type 0 where
-  pub within : (r : ℕ) → 0 < r → r ≤ R → st r ≤ n
-  pub alone : (q r : ℕ) → 0 < q → q < r → r ≤ R → st q ≡ 0 → st r ≡ 0 → n ≡ 0

@@ -1,7 +1,8 @@
--- Walks along a function on the places 1..n: iterates, the first return, the places met, and the rows that own them.
-use mathlib.Core.Bool.{Bool, cond}
+-- Walks along a function on the places 1..n: iterates, the first return, the places met, and the rows that own them. A row starts at one
+-- of the places, or has no start, which is 0: then its walk has no move, and it owns nothing.
+use mathlib.Core.Bool.{Bool, false, cond}
 use mathlib.Core.List.{List, _∷_}
-use Prim.Native.Nat.{ℕ, zero, suc, pred}
+use Prim.Native.Nat.{ℕ, zero, suc, pred, _≤_, _<_}
 use lib.Dec.{eqb, ltb}
 use lib.ListN.{getD}
 use Rattle.laws.specs.Lowest.{lowest}
@@ -24,9 +25,23 @@ firstReturn f n s = lowest (λ k. eqb (iterate f k s) s) n
 abbrev pub meets : (ℕ → ℕ) → ℕ → ℕ → ℕ → Bool
 meets f n a s = ltb 0 (lowest (λ k. eqb (iterate f k a) s) n)
 
--- the lowest of the rows 1..r whose walk meets s, or 0; st gives the start of a row
+-- ---- rows; st gives the start of a row, or 0 where it has none
+
+-- the starts of the rows 1..R are among 1..n, or 0
+abbrev pub Starts : ℕ → (ℕ → ℕ) → ℕ → Type 0
+Starts n st R = (r : ℕ) → 0 < r → r ≤ R → st r ≤ n
+
+-- the number of moves of row r's walk until its start returns: none where it has no start
+abbrev pub rowMoves : (ℕ → ℕ) → ℕ → (ℕ → ℕ) → ℕ → ℕ
+rowMoves f n st r = cond (eqb (st r) 0) 0 (firstReturn f n (st r))
+
+-- s is met on row r's walk, within n moves: none is where it has no start
+abbrev pub rowMeets : (ℕ → ℕ) → ℕ → (ℕ → ℕ) → ℕ → ℕ → Bool
+rowMeets f n st s r = cond (eqb (st r) 0) false (meets f n (st r) s)
+
+-- the lowest of the rows 1..r whose walk meets s, or 0
 abbrev pub owner : (ℕ → ℕ) → ℕ → (ℕ → ℕ) → ℕ → ℕ → ℕ
-owner f n st r s = lowest (λ q. meets f n (st q) s) r
+owner f n st r s = lowest (rowMeets f n st s) r
 
 -- the lowest of the rows 1..R whose start an earlier row's walk meets, or 0
 abbrev pub firstTaken : (ℕ → ℕ) → ℕ → (ℕ → ℕ) → ℕ → ℕ

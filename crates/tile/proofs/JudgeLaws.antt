@@ -1,31 +1,28 @@
 -- What each part of the tests leaves to the next, and the parts joined.
 use mathlib.Core.Path.{_≡_, refl, sym, ap, _∙_}
-use mathlib.Core.Logic.{_⊎_, inl, inr, ⊎-elim}
-use mathlib.Core.Bool.{Bool, true, false, not, _&&_, true≢false}
+use mathlib.Core.Bool.{true, false}
 use mathlib.Core.List.{List, _∷_, _++_}
 use Prim.Native.Nat.{ℕ, _≤_, _<_}
 use native.Mathlib.Omega.{arith}
-use lib.Dec.{eqb, ltb}
+use lib.Dec.{ltb}
 use lib.ListN.{length}
-use borrow.Author.Tests.{eq-eqb, ne-eqb, eqb-true, le-ltb, lt-ltb}
-use Rattle.laws.specs.Lowest.{lowest}
-use Rattle.laws.specs.Orbit.{entry, firstDoubled}
+use borrow.Author.Tests.{eq-eqb, ne-eqb, le-ltb, lt-ltb}
+use Rattle.laws.specs.Orbit.{firstDoubled}
 use Rattle.laws.specs.Buffer.{front}
 use Rattle.laws.specs.Marks.{zeros}
-use Rattle.laws.proofs.LowestLaws.{lowest-zero, lowest-none}
 use Rattle.laws.proofs.MarkLaws.{over-front}
 use Rattle.refusal.specs.declared.Refusal.{Refusal}
 use Rattle.refusal.specs.Order.{refusal, fine, refusedIf, located, first, firstOf, lowestOf}
 use Rattle.refusal.proofs.OrderLaws.{passed-all, located-passes, lowest-fine, stops, goes-on, part-stops}
 use Rattle.refusal.proofs.OrderLaws.{part-goes-on, Numbered, first-numbered, located-numbered, lowest-numbered}
-use Rattle.side.specs.Edges.{Edges, edgeCount, sideCount}
+use Rattle.side.specs.Edges.{Edges, sideCount}
 use Rattle.side.specs.Successor.{successor, after}
 use Rattle.side.specs.declared.Successor.{Successor}
 use Rattle.side.specs.declared.Successor.the-variants.{Side, Wrong}
 use Rattle.side.proofs.SideLaws.{Sound, successor-sound}
-use Rattle.tile.specs.Columns.{Tile, F, N, sides, sideWith, startSide, emptyStart}
+use Rattle.tile.specs.Columns.{Tile, F, N, sides, startSide, emptyStart}
 use Rattle.tile.specs.Check.{sizesWrong, refusedSide, edgeSideRefusal, tests, verdict, verdictOf, marksLeft, marksAfter}
-use Rattle.tile.specs.Serving.Stages.{edgeTests, ringTests, ownerTests, startMissing, startOf, lacksStart, ownersPainted, ringsOf}
+use Rattle.tile.specs.Serving.Stages.{edgeTests, ringTests, ownerTests, startMissing, startOf, ownersPainted, ringsOf}
 use Rattle.tile.specs.Serving.Stages.{ownersOf, afterEdges, laterTests, marksJudged}
 use Rattle.tile.specs.declared.Verdict.the-variants.{Accepted, Refused}
 use Rattle.tile.proofs.OwnerLaws.{all-painted}
@@ -35,39 +32,6 @@ pub sides-fine : (t : Edges) (faces nodes : ℕ) → firstOf (edgeTests t faces 
     → lowestOf (edgeSideRefusal t) (sideCount t) ≡ fine
 unfolding edgeTests
 sides-fine t faces nodes e = lowest-fine (edgeSideRefusal t) (sideCount t) (passed-all (edgeTests t faces nodes) e .1 .1 .1 .0)
-
--- ---- the rings' tests passed: every ring of a tile with edges has a start side
-started : (a b c d x : Bool) → (not (a && (b && (c && d))) && x) ≡ false → x ≡ false ⊎ b ≡ true
-started a b c d false e = inl refl
-started true true c d true e = inr refl
-started true false c d true e = absurd (true≢false e)
-started false b c d true e = absurd (true≢false e)
-
-module _ (t : Edges) (rp fi se : List ℕ) where
-  start-found : (r : ℕ) → startMissing (edgeCount t) (length rp) (length fi) (t .rightFace) (t .leftFace) (entry fi r)
-      (entry se r) ≡ false → lacksStart t fi se r ≡ false
-  unfolding startMissing lacksStart startOf
-  start-found r e =
-      ⊎-elim
-      (λ h. rw h)
-      (λ h. let z = eqb-true (edgeCount t) 0 h in rw (le-ltb 0 (edgeCount t) (omega arith))
-      (and-right (eqb (sideWith (edgeCount t) (t .rightFace) (t .leftFace) (entry fi r) (entry se r)) 0)))
-      (started (eqb (entry se r) 0) (eqb (edgeCount t) 0) (eqb (length rp) 1) (eqb (length fi) 1)
-      (eqb (sideWith (edgeCount t) (t .rightFace) (t .leftFace) (entry fi r) (entry se r)) 0) e)
-    where
-      and-right : (a : Bool) → (a && false) ≡ false
-      and-right true = refl
-      and-right false = refl
-
-  pub starts-found : (fe : List ℕ) → firstOf
-      (ringTests (t .startNode) (t .endNode) (t .rightFace) (t .leftFace) rp fi se fe) .number ≡ 0 → lowest (lacksStart t fi se) (length fi) ≡ 0
-  unfolding ringTests
-  starts-found fe e =
-      let p = passed-all (ringTests (t .startNode) (t .endNode) (t .rightFace) (t .leftFace) rp fi se fe) e in
-      let z = located-passes 29 _ (λ e. omega arith) (p .1 .1 .1 .0) in
-      lowest-none (lacksStart t fi se) (length fi)
-      (λ r a b. start-found r (lowest-zero (λ r.
-      startMissing (edgeCount t) (length rp) (length fi) (t .rightFace) (t .leftFace) (entry fi r) (entry se r)) (length fi) z .fails r a b))
 
 -- ---- 20 to 31 in order, part by part: a part that refuses is the answer
 module _ (t : Tile) (a : Refusal) (e : a ≡ firstOf (edgeTests (t .edg) (F t) (N t))) where

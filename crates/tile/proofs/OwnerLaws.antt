@@ -1,19 +1,18 @@
 -- What the tests' answers say of the successor as a function on sides.
 use mathlib.Core.Path.{_≡_, sym, ap, _∙_}
-use mathlib.Core.Bool.{Bool, true, false, cond, _&&_, true≢false}
+use mathlib.Core.Bool.{Bool, true, false, cond}
 use mathlib.Core.List.{List}
 use Prim.Native.Nat.{ℕ, suc, _+_, _*_, _≤_, _<_}
 use native.Mathlib.Numerals.{add-one}
-use lib.Dec.{eqb, ltb}
+use lib.Dec.{eqb}
 use lib.ListN.{length, getD}
 use native.Mathlib.Omega.{arith}
 use borrow.Author.Tests.{eq-eqb, ne-eqb, ltb-false}
 use Rattle.laws.specs.Sums.{Into, Inj}
-use Rattle.laws.specs.Orbit.{entry, firstDoubled, firstTaken}
+use Rattle.laws.specs.Orbit.{entry, Starts, firstDoubled, firstTaken}
 use Rattle.laws.specs.Buffer.{front}
-use Rattle.laws.specs.Marks.{zeros, count, ownerAt, Starts}
-use Rattle.laws.specs.Lowest.{lowest}
-use Rattle.laws.proofs.LowestLaws.{bool-cases, lowest-zero}
+use Rattle.laws.specs.Marks.{zeros, count, ownerAt}
+use Rattle.laws.proofs.LowestLaws.{bool-cases}
 use Rattle.laws.proofs.BufferLaws.{front-over}
 use Rattle.laws.proofs.MarkLaws.{single, over-front}
 use Rattle.refusal.specs.declared.Refusal.{Refusal}
@@ -26,7 +25,7 @@ use Rattle.side.specs.declared.Successor.the-variants.{Side, Wrong}
 use Rattle.side.proofs.SideLaws.{not-outside, Sound, successor-sound}
 use Rattle.tile.specs.Columns.{sideWith}
 use Rattle.tile.specs.Check.{refusedSide, edgeSideRefusal}
-use Rattle.tile.specs.Serving.Stages.{tallied, startOf, lacksStart, ownersPainted}
+use Rattle.tile.specs.Serving.Stages.{tallied, startOf, ownersPainted}
 
 -- a side that is not refused has a successor among the sides
 sound-goes : (n s : ℕ) (c : Successor) → Sound n c → refusedSide s c .number ≤ 0 → (0 < sideOf c) × (sideOf c ≤ n)
@@ -55,10 +54,6 @@ side-with-within m rf lf f e =
     (λ o. rw o (omega arith))
     (λ o. rw o (start-cases m e (eqb (entry rf e) f) (eqb (entry lf e) f) (not-outside m e o .1)))
 
-and-false : (a b : Bool) → (a && b) ≡ false → a ≡ true → b ≡ false
-and-false true b e t = e
-and-false false b e t = absurd (true≢false (sym t))
-
 module _ (t : Edges) (fi se : List ℕ) where
   -- a start as the code finds it
   pub start-is : (i a e : ℕ) → e ≡ entry se (i + 1)
@@ -70,18 +65,6 @@ module _ (t : Edges) (fi se : List ℕ) where
   unfolding startOf
   start-within r = side-with-within (edgeCount t) (t .rightFace) (t .leftFace) (entry fi r) (entry se r)
 
-  edgeless : (r : ℕ) → lacksStart t fi se r ≡ false → startOf t fi se r ≡ 0 → sideCount t ≡ 0
-  unfolding lacksStart
-  edgeless r e z =
-      let h = and-false (eqb (startOf t fi se r) 0) (ltb 0 (edgeCount t)) e (eq-eqb (startOf t fi se r) 0 z) in
-      omega (arith, ltb-false 0 (edgeCount t) h)
-
-  pub starts-known : lowest (lacksStart t fi se) (length fi) ≡ 0 → Starts (sideCount t) (startOf t fi se) (length fi)
-  starts-known e = record {
-    within = λ r a b. start-within r;
-    alone = λ q r a b c y z. edgeless q (lowest-zero (lacksStart t fi se) (length fi) e .fails q a (omega arith)) y;
-  }
-
 -- what the painting is handed, read once
 pub record Painting (t : Edges) (fi se : List ℕ) : Type 0 where
   pub into : Into (after t) (sideCount t) (sideCount t)
@@ -89,8 +72,8 @@ pub record Painting (t : Edges) (fi se : List ℕ) : Type 0 where
   pub starts : Starts (sideCount t) (startOf t fi se) (length fi)
 
 pub painting : (t : Edges) (fi se : List ℕ) → lowestOf (edgeSideRefusal t) (sideCount t) ≡ fine → firstDoubled (after t) (sideCount t) ≡ 0
-    → lowest (lacksStart t fi se) (length fi) ≡ 0 → Painting t fi se
-painting t fi se a b c = record { into = goes t a; inj = apart t a b; starts = starts-known t fi se c }
+    → Painting t fi se
+painting t fi se a b = record { into = goes t a; inj = apart t a b; starts = λ r u v. start-within t fi se r }
 
 -- ---- the marks where the painting stops: at a row that is taken, or after the last
 module _ (t : Edges) (fi se : List ℕ) (d m m₀ : List ℕ) (p : m₀ ≡ front zeros (sideCount t) d) where

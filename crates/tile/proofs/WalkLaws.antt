@@ -14,7 +14,7 @@ use Rattle.side.specs.declared.Successor.the-variants.{Side, Wrong}
 use Rattle.refusal.specs.declared.Refusal.{Refusal}
 use Rattle.refusal.specs.Order.{refusal}
 use Rattle.tile.proofs.SuccessorLaws.{nowhere-to-go}
-use Rattle.tile.specs.Columns.{Tile, E, F, R, sideWith, startSide, emptyStart}
+use Rattle.tile.specs.Columns.{Tile, E, R, sideWith, startSide, emptyStart}
 use Rattle.tile.specs.Check.{refusedSide, edgeSideRefusal, sizesWrong, startWrong}
 use Rattle.tile.specs.Serving.Stages.{startMissing, inFull, pathWritten}
 use Rattle.tile.specs.Walk.{Moves, Back, Open, Stuck, stuckAt, movesFrom, moves, walked, walkOf, sidesWritten}
@@ -77,16 +77,15 @@ module _ (t : Tile) (r space : ℕ) where
     walk-no-row q o g = rw (w, o, g)
 
     module _ (o : outside (R t) r ≡ false) (f e : ℕ) (x : f ≡ entry (t .facId) r) (y : e ≡ entry (t .startEdge) r) where
-      missing : startMissing (E t) (F t) (R t) (t .edg .rightFace) (t .edg .leftFace) f e ≡ startWrong t r
+      missing : startMissing (E t) (t .edg .rightFace) (t .edg .leftFace) r f e ≡ startWrong t r
       unfolding startMissing startSide emptyStart
-      missing = λ i. startMissing (E t) (F t) (R t) (t .edg .rightFace) (t .edg .leftFace) (x i) (y i)
+      missing = λ i. startMissing (E t) (t .edg .rightFace) (t .edg .leftFace) r (x i) (y i)
 
-      pub walk-no-start : (q : Refusal) → startMissing (E t) (F t) (R t) (t .edg .rightFace)
-          (t .edg .leftFace) f e ≡ true → q ≡ refusal 29 r → Refused q ≡ walkOf t r space
+      pub walk-no-start : (q : Refusal) → startMissing (E t) (t .edg .rightFace) (t .edg .leftFace) r f e ≡ true → q ≡ refusal 29 r → Refused q ≡ walkOf t r space
       unfolding walkOf
       walk-no-start q m g = rw (w, o, sym missing ∙ m, g)
 
-      module _ (m : startMissing (E t) (F t) (R t) (t .edg .rightFace) (t .edg .leftFace) f e ≡ false) (a : ℕ)
+      module _ (m : startMissing (E t) (t .edg .rightFace) (t .edg .leftFace) r f e ≡ false) (a : ℕ)
           (s : a ≡ sideWith (E t) (t .edg .rightFace) (t .edg .leftFace) f e) where
         starts-at : a ≡ startSide t r
         unfolding startSide

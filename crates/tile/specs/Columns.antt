@@ -57,9 +57,10 @@ sideWith edgeRows rightFace leftFace f e =
 unfoldable pub startSide : Tile → ℕ → ℕ
 startSide t r = sideWith (E t) (t .edg .rightFace) (t .edg .leftFace) (entry (t .facId) r) (entry (t .startEdge) r)
 
--- "Start 0 is allowed only in the one ring of a tile with E = 0 and F = 1."
-abbrev pub emptyAllowed : ℕ → ℕ → ℕ → ℕ → Bool
-emptyAllowed edgeRows faceRows ringRows e = eqb e 0 && (eqb edgeRows 0 && (eqb faceRows 1 && eqb ringRows 1))
+-- Document 02, No. 1, in place of 01's "Start 0 is allowed only in the one ring of a tile with E = 0 and F = 1.": "Accept start 0 in ring row
+-- 1 when its face is 1, whatever E is. .. Elsewhere 0 stays refusal 29." Of ring row r, with the face f and the start edge e
+abbrev pub emptyAllowed : ℕ → ℕ → ℕ → Bool
+emptyAllowed r f e = eqb e 0 && (eqb r 1 && eqb f 1)
 
 unfoldable pub emptyStart : Tile → ℕ → Bool
-emptyStart t r = emptyAllowed (E t) (F t) (R t) (entry (t .startEdge) r)
+emptyStart t r = emptyAllowed r (entry (t .facId) r) (entry (t .startEdge) r)

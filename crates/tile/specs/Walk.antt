@@ -4,7 +4,7 @@ use mathlib.Core.List.{List}
 use Prim.Native.Nat.{ℕ, zero, suc}
 use lib.Dec.{eqb, ltb}
 use Rattle.laws.specs.Sums.{sum}
-use Rattle.laws.specs.Orbit.{iterate, firstReturn}
+use Rattle.laws.specs.Orbit.{iterate, rowMoves}
 use Rattle.laws.specs.Buffer.{listed, front}
 use Rattle.refusal.specs.declared.Refusal.{Refusal}
 use Rattle.refusal.specs.Order.{refusal}
@@ -46,7 +46,7 @@ walked r space (Back k) = cond (ltb space k) (Refused (refusal 14 k)) (Steps k)
 walked r space Open = Refused (refusal 32 r)
 walked r space (Stuck q) = Refused q
 
--- THE WALK. "The empty ring has 0 steps."
+-- THE WALK. "The empty ring has 0 steps.": the ring without a start edge
 unfoldable pub walkOf : Tile → ℕ → ℕ → Walked
 walkOf t r space =
     cond (sizesWrong t) (Refused (refusal 15 0))
@@ -73,9 +73,9 @@ stepsOf (Refused q) = 0
 abbrev pub allSteps : Tile → ℕ → ℕ → ℕ
 allSteps t space n = sum (λ r. stepsOf (walkOf t r space)) n
 
--- the steps of ring row r and the list of its sides, start side first
+-- the steps of ring row r, none where it has no start side, and the list of its sides, start side first
 abbrev pub ringSteps : Tile → ℕ → ℕ
-ringSteps t r = cond (eqb (startSide t r) 0) 0 (firstReturn (after (t .edg)) (sides t) (startSide t r))
+ringSteps t = rowMoves (after (t .edg)) (sides t) (startSide t)
 
 abbrev pub ringSides : Tile → ℕ → List ℕ
 ringSides t r = listed (sideAfter t r) (ringSteps t r)

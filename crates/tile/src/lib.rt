@@ -184,7 +184,7 @@ pub fn check(
 
 // The walk from a ring row: the sides of its cycle, start side first. A refusal writes nothing.
 // Example: in tile MJ21 ring 1 (face 1, from edge 1) has 3 steps and the list 2, 6, 4, and ring 2 the list 1, 3, 5. One dangling edge with
-// both faces 1 and both links 1 has one ring, of 2 steps: 1, 2.
+// both faces 1 and both links 1 has one ring, of 2 steps: 1, 2. A ring row 1 of face 1 without a start edge has 0 steps and no list.
 pub fn walk(
     start_node: &[u32],
     end_node: &[u32],
@@ -222,13 +222,12 @@ pub fn walk(
         return Walked::Refused(refusal::refuse(OVER_LIMIT, 0));
     }
     let edges = start_node.len();
-    let rings = fac_id.len();
-    if side::is_outside(rings, row) {
+    if side::is_outside(fac_id.len(), row) {
         return Walked::Refused(refusal::refuse(NO_SUCH, row));
     }
     let face = side::row(fac_id, row);
     let e = side::row(start_edge, row);
-    if starts::has_no_start(edges, ring_ptr.len(), rings, right_face, left_face, face, e) {
+    if starts::has_no_start(edges, right_face, left_face, row, face, e) {
         return Walked::Refused(refusal::refuse(WRONG_START, row));
     }
     let start = starts::side_with(edges, right_face, left_face, face, e);

@@ -170,7 +170,8 @@ fn paint(
     }
 }
 
-// 30: paints each ring's cycle with its row, and stops at the lowest ring row whose start is painted already; 0 where none is.
+// 30: paints each ring's cycle with its row, and stops at the lowest ring row whose start is painted already; 0 where none is. A ring
+// without a start paints nothing.
 fn own(
     start_node: &[u32],
     end_node: &[u32],
@@ -183,7 +184,7 @@ fn own(
     marks: &mut [u32],
 ) -> usize
     requires { ⌜ Paintable (edges (now «start_node») (now «end_node») (now «right_face») (now «left_face») (now «right_edge»)
-        (now «left_edge»)) (now «fac_id») (now «start_edge») ⌝ }
+        (now «left_edge»)) (now «fac_id») ⌝ }
     requires { ⌜ 2 * length (now «start_node») ≤ length (now marks) ⌝ }
     ensures { λ r. ⌜ r ≡ takenRing (edges (now («start_node» .entry)) (now («end_node» .entry)) (now («right_face» .entry))
         (now («left_face» .entry)) (now («right_edge» .entry)) (now («left_edge» .entry))) (now («fac_id» .entry))
@@ -230,7 +231,7 @@ pub(crate) fn judge_owners(
     marks: &mut [u32],
 ) -> Refusal
     requires { ⌜ Paintable (edges (now «start_node») (now «end_node») (now «right_face») (now «left_face») (now «right_edge»)
-        (now «left_edge»)) (now «fac_id») (now «start_edge») ⌝ }
+        (now «left_edge»)) (now «fac_id») ⌝ }
     requires { ⌜ 2 * length (now «start_node») ≤ length (now marks) ⌝ }
     ensures { λ r. ⌜ r ≡ firstOf (ownerTests (edges (now («start_node» .entry)) (now («end_node» .entry)) (now («right_face» .entry))
         (now («left_face» .entry)) (now («right_edge» .entry)) (now («left_edge» .entry))) (now («fac_id» .entry))

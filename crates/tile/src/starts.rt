@@ -37,35 +37,31 @@ pub(crate) fn side_with(
     0
 }
 
-// Whether e is the start 0 that the one ring of a tile with no edge and one face may have.
-fn may_be_empty(edges: usize, faces: usize, rings: usize, e: u32) -> bool
-    ensures { λ r. ⌜ r ≡ emptyAllowed edges faces rings e ⌝ }
+// Whether e is the start 0 that ring row 1 may have when its face is 1.
+fn may_be_empty(row: usize, face: u32, e: u32) -> bool
+    ensures { λ r. ⌜ r ≡ emptyAllowed row face e ⌝ }
 {
     if e != 0 {
         return false;
     }
-    if edges != 0 {
+    if row != 1 {
         return false;
     }
-    if faces != 1 {
-        return false;
-    }
-    rings == 1
+    face == 1
 }
 
-// Whether a ring with the face and the start edge e has neither a start side nor the allowed 0.
+// Whether the ring row, with the face and the start edge e, has neither a start side nor the allowed 0.
 pub(crate) fn has_no_start(
     edges: usize,
-    faces: usize,
-    rings: usize,
     right_face: &[u32],
     left_face: &[u32],
+    row: usize,
     face: u32,
     e: u32,
 ) -> bool
-    ensures { λ r. ⌜ r ≡ startMissing edges faces rings (now («right_face» .entry)) (now («left_face» .entry)) face e ⌝ }
+    ensures { λ r. ⌜ r ≡ startMissing edges (now («right_face» .entry)) (now («left_face» .entry)) row face e ⌝ }
 {
-    if may_be_empty(edges, faces, rings, e) {
+    if may_be_empty(row, face, e) {
         return false;
     }
     side_with(edges, right_face, left_face, face, e) == 0
@@ -74,21 +70,18 @@ pub(crate) fn has_no_start(
 // The lowest ring row with a wrong start, or 0.
 fn bad_start(
     edges: usize,
-    faces: usize,
     right_face: &[u32],
     left_face: &[u32],
     fac_id: &[u32],
     start_edge: &[u32],
 ) -> usize
-    ensures { λ r. ⌜ r ≡ lowest (λ (r : ℕ). startMissing edges faces (length (now («fac_id» .entry))) (now («right_face» .entry))
-        (now («left_face» .entry)) (entry (now («fac_id» .entry)) r) (entry (now («start_edge» .entry)) r)) (length
-        (now («fac_id» .entry))) ⌝ }
+    ensures { λ r. ⌜ r ≡ lowest (λ (r : ℕ). startMissing edges (now («right_face» .entry)) (now («left_face» .entry)) r (entry
+        (now («fac_id» .entry)) r) (entry (now («start_edge» .entry)) r)) (length (now («fac_id» .entry))) ⌝ }
 {
-    let rings = fac_id.len();
     let mut i: usize = 0;
-    while i < rings {
+    while i < fac_id.len() {
         let e = side::row(start_edge, i + 1);
-        if has_no_start(edges, faces, rings, right_face, left_face, fac_id[i], e) {
+        if has_no_start(edges, right_face, left_face, i + 1, fac_id[i], e) {
             return i + 1;
         }
         i += 1;
@@ -129,13 +122,6 @@ pub(crate) fn judge_rings(
     }
     refusal::refuse_at(
         WRONG_START,
-        bad_start(
-            start_node.len(),
-            faces,
-            right_face,
-            left_face,
-            fac_id,
-            start_edge,
-        ),
+        bad_start(start_node.len(), right_face, left_face, fac_id, start_edge),
     )
 }

@@ -17,7 +17,7 @@ use Rattle.limits.specs.Limits.{mostRows}
 use Rattle.tile.specs.Serving.Stages.{ownersPainted, laterTests}
 use Rattle.tile.specs.Columns.{Tile, tile, E, F, R, N, sides, Regular}
 use Rattle.tile.proofs.SizeLaws.{rows-within, regular}
-use Rattle.tile.proofs.JudgeLaws.{sides-fine, starts-found, at-edges, at-predecessors, at-rings, at-owners}
+use Rattle.tile.proofs.JudgeLaws.{sides-fine, at-edges, at-predecessors, at-rings, at-owners}
 use Rattle.tile.proofs.JudgeLaws.{erased, erased-at-once, painted-front, painted-erased, painted-kept}
 use Rattle.tile.proofs.OwnerLaws.{tally-fine, tally-refused, fronted}
 use borrow.Author.Needs.{needs}
@@ -196,8 +196,6 @@ judge-owners-requires c κs =
               (sym (ap (λ (r : Refusal). r .number) (b .refuse-at .ensures)) ∙ r .before .if2 .left),
         ),
         short (entry-of e) .1,
-        starts-found (t .edg) (t .ringPtr) (t .facId) (t .startEdge) (t .firstEdge)
-            (sym (ap (λ (r : Refusal). r .number) (r .judge-rings .ensures)) ∙ at-if3 .if3 .left),
       ),
       room e,
     )

@@ -53,10 +53,9 @@ Cycles t = Regular t × (refusedAtSide t ≡ fine) × (doubledSide t ≡ 0)
 abbrev pub cyclePainted : Edges → ℕ → ℕ → List ℕ → List ℕ
 cyclePainted t start row d = front (painted (after t) d start row (sideCount t)) (sideCount t) d
 
--- 29: of a ring with the face f and the start edge e, in a tile with so many edges, faces and rings
-unfoldable pub startMissing : ℕ → ℕ → ℕ → List ℕ → List ℕ → ℕ → ℕ → Bool
-startMissing edgeRows faceRows ringRows rightFace leftFace f e =
-    not (emptyAllowed edgeRows faceRows ringRows e) && eqb (sideWith edgeRows rightFace leftFace f e) 0
+-- 29: of ring row r with the face f and the start edge e, in a tile with so many edges
+unfoldable pub startMissing : ℕ → List ℕ → List ℕ → ℕ → ℕ → ℕ → Bool
+startMissing edgeRows rightFace leftFace r f e = not (emptyAllowed r f e) && eqb (sideWith edgeRows rightFace leftFace f e) 0
 
 -- 27 to 29: the first edges, the rings' faces, the faces' runs and the rings' starts
 unfoldable pub ringTests : List ℕ → List ℕ → List ℕ → List ℕ → List ℕ → List ℕ → List ℕ → List ℕ → List Refusal
@@ -64,7 +63,7 @@ ringTests startNode endNode rightFace leftFace ringPtr facId startEdge firstEdge
     located 27 (lowest (λ n. edgeAway startNode endNode n (entry firstEdge n)) (length firstEdge))
     ∷ located 28 (lowest (entryOutside (length ringPtr) facId) (length facId))
     ∷ located 28 (lowest (runBroken ringPtr facId) (length ringPtr))
-    ∷ located 29 (lowest (λ r. startMissing (length startNode) (length ringPtr) (length facId) rightFace leftFace (entry facId r) (entry startEdge r)) (length facId))
+    ∷ located 29 (lowest (λ r. startMissing (length startNode) rightFace leftFace r (entry facId r) (entry startEdge r)) (length facId))
     ∷ []
 
 -- 28 in linear time, without scratch. Ring row r begins a run of rows of one face, and the face's ring_ptr names another row
@@ -80,17 +79,13 @@ abbrev pub runNotAtPointer : List ℕ → List ℕ → ℕ → Bool
 runNotAtPointer ringPtr facId f =
     pointsAway ringPtr facId f || ltb 0 (lowest (λ r. eqb (entry facId r) f && beginsElsewhere ringPtr facId r) (length facId))
 
--- the start side of ring row r
+-- the start side of ring row r, or 0
 unfoldable pub startOf : Edges → List ℕ → List ℕ → ℕ → ℕ
 startOf t facId startEdge r = sideWith (edgeCount t) (t .rightFace) (t .leftFace) (entry facId r) (entry startEdge r)
 
--- ring row r has no start side, in a tile that has edges
-unfoldable pub lacksStart : Edges → List ℕ → List ℕ → ℕ → Bool
-lacksStart t facId startEdge r = eqb (startOf t facId startEdge r) 0 && ltb 0 (edgeCount t)
-
--- and each ring row has a start side, in a tile that has edges
-abbrev pub Paintable : Edges → List ℕ → List ℕ → Type 0
-Paintable t facId startEdge = Cycles t × (length facId ≤ mostRows) × (lowest (lacksStart t facId startEdge) (length facId) ≡ 0)
+-- 15 and 23 to 26 pass: the rings' cycles can be painted, each with its row
+abbrev pub Paintable : Edges → List ℕ → Type 0
+Paintable t facId = Cycles t × (length facId ≤ mostRows)
 
 -- 30: the lowest ring row whose start is on the cycle of one before, or 0
 abbrev pub takenRing : Edges → List ℕ → List ℕ → ℕ

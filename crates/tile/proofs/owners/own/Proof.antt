@@ -35,7 +35,7 @@ columns s = columns-of (s .args .start-node .now) (s .args .end-node .now) (s .a
     (s .args .right-edge .now) (s .args .left-edge .now)
 
 known : (s : tie.Start Inv-loop μ-loop) → Painting (columns s) (s .args .fac-id .now) (s .args .start-edge .now)
-known s = painting (columns s) (s .args .fac-id .now) (s .args .start-edge .now) (s .pre .0 .0 .1) (s .pre .0 .0 .2) (s .pre .0 .2)
+known s = painting (columns s) (s .args .fac-id .now) (s .args .start-edge .now) (s .pre .0 .0 .1) (s .pre .0 .0 .2)
 
 -- a ring row's start is found: the place at which this function was entered
 abbrev entered : tie.After-side-with Inv-loop μ-loop → tie.Start Inv-loop μ-loop
