@@ -1,4 +1,4 @@
-"""Writes the cases of program tile_cases and what it must print for them, from document 01's rules, as No. 1 of 02 amends them, as this script has them.
+"""Writes the cases of program tile_cases and what it must print for them, from the rules of document 01, with No. 1 of 02, as this script has them.
 The rules are implemented here anew; what documents 000, 001 and 01 say of their tiles is asserted before anything is written."""
 from casefile import Cases, number, refused
 

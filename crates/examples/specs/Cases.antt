@@ -187,7 +187,7 @@ cases =
     ∷ rings-of dangling (2 ∷ [])
     ∷ writes-of dangling 1 (1 ∷ 2 ∷ [])
     -- document 02, No. 1: "Accept start 0 in ring row 1 when its face is 1, whatever E is. Such a ring has 0 steps and owns no side; other
-    -- rings follow in its face's run. Elsewhere 0 stays refusal 29": P8's tile with such a row, and with its start in row 2
+    -- rings follow in its face's run. Elsewhere 0 stays refusal 29": P8's tile with such a row 1, and with the 0 in row 2 instead
     ∷ rings-of (mj21Rings (3 ∷ 1 ∷ 2 ∷ []) (1 ∷ 3 ∷ []) (1 ∷ 1 ∷ 2 ∷ []) (0 ∷ 1 ∷ 1 ∷ [])) (0 ∷ 3 ∷ 3 ∷ [])
     ∷ no-tile (mj21Rings (3 ∷ 1 ∷ 2 ∷ []) (1 ∷ 3 ∷ []) (1 ∷ 1 ∷ 2 ∷ []) (1 ∷ 0 ∷ 1 ∷ [])) (refusal 29 2)
     ∷ []

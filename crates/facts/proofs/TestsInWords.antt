@@ -26,6 +26,7 @@ use Rattle.side.proofs.SuccessorExactly.{wrong-number, successor-side, side-aft
 use Rattle.tile.specs.Columns.{Tile, E, F, R, N, sides, startSide, emptyStart}
 use Rattle.tile.specs.Check.{sizesWrong, rowOutside, nodeOutside, faceOutside, linkOutside}
 use Rattle.tile.specs.Check.{refusedSide, sideRefusal, firstEdgeWrong, ringFaceOutside, runWrong, startWrong}
+use Rattle.tile.proofs.OwnerLaws.{side-with-within}
 use Rattle.tile.proofs.RunsExactly.{broken-exactly}
 use Rattle.tile.proofs.SizeLaws.{sizes-right}
 use Rattle.facts.specs.Facts.{Sizes, NodesIn, FacesIn, LinksIn, Succeeded, OnePredecessor, NoTwoPredecessors, FirstEdgeTouches}
@@ -257,7 +258,8 @@ module _ (t : Tile) where
   start-placed h r i some = ⊎-elim (λ w. absurd (omega (arith, w .no-start))) (placed r) (h r i)
 
   pub start-within : (r : ℕ) → startSide t r ≤ sides t
-  start-within r = ⊎-elim (λ w. omega (arith, w .0)) (λ w. w .1 .within) (start-side r)
+  unfolding startSide
+  start-within r = side-with-within (E t) (t .edg .rightFace) (t .edg .leftFace) (entry (t .facId) r) (entry (t .startEdge) r)
 
   -- ---- 30, 31: where each side has exactly one predecessor, the walks are cycles, and a side is met within 2E moves or never
   pub single : Each (sides t) (Succeeded t) → Each (sides t) (OnePredecessor t) → Inj (after (t .edg)) (sides t)

@@ -92,7 +92,8 @@ runWrong t = runBroken (t .ringPtr) (t .facId)
 abbrev pub startWrong : Tile → ℕ → Bool
 startWrong t r = not (emptyStart t r) && eqb (startSide t r) 0
 
--- the tests in document 01's order; `space` is the length of the lent owner marks
+-- the tests in document 01's order; `space` is the length of the lent owner marks. 30, 31 and the owners go by the rings' start sides: a ring
+-- without a start edge has none, 0, and "owns no side" (document 02, No. 1)
 abbrev pub tests : Tile → ℕ → List Refusal
 tests t space =
     refusedIf (sizesWrong t) 15 0
