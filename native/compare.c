@@ -175,14 +175,26 @@ static void random_fields(made_table *t, size_t row) {
     }
 }
 
+/* the last three names of a column, and whether its last comma stands */
+static void some_names(made_table *t, char *names, bool mixed) {
+    size_t n = 0;
+    for (int i = 0; i < 3; i++) {
+        if (i) names[n++] = ',';
+        n += strlen(chance(2) ? strcpy(names + n, "-") : printable(names + n, 1, 12, ";:,="));
+    }
+    t->names = names, t->bare = mixed && chance(2);
+}
+
 /* a right table: any columns, any rows */
 static void right_table(made_table *t) {
     static const char types[] = "TLFRSICZBYDXK";
+    static char names[48]; /* the table keeps it */
     char title[96], narrative[16], name[32], about[96], count[8];
     size_t columns = chance(60) ? MOST_COLUMNS - 4 + below(6) : 1 + below(7), id = below(columns);
-    bool fixed = chance(2), faulty = chance(12), alike = chance(5);
+    bool fixed = chance(2), faulty = chance(12), alike = chance(5), mixed = chance(3);
     begin_table(t, "LM\0"[below(3)], printable(title, 0, 80, ";"), printable(narrative, 1, 12, ";"));
     for (size_t k = 0; k < columns; k++) {
+        some_names(t, names, mixed);
         if (k == id) {
             static const char *ids[] = {"id", "ID", "Id", "iD"};
             add_column(t, ids[below(4)], 'I', "1", 'P', printable(about, 0, 80, ";:,="));
@@ -236,7 +248,7 @@ static uint64_t number_at(const uint8_t *p, bool most) {
 
 static void spoil_table(made_table *t) {
     if (t->size < t->start || t->start < 5) return;
-    switch (below(16)) {
+    switch (below(17)) {
     case 12: case 13: case 14: case 15: /* a row's end is moved, and the next row's start with it */
         if (t->varies && t->rows > 1) {
             size_t i = 1 + below(t->rows - 1), by = chance(2) ? 1 + below(4) : (size_t)0 - 1 - below(4);
@@ -260,6 +272,15 @@ static void spoil_table(made_table *t) {
         if (chance(2)) t->index_size = below(t->index_size + 1);
         else t->index[t->index_size++] = (uint8_t)draw();
         break;
+    case 16: { /* a comma goes or comes before a colon, and L with it */
+        size_t at = 4 + below(t->start - 4);
+        while (at < t->start && t->file[at] != ':') at++;
+        if (at == t->start) break;
+        if (t->file[at - 1] == ',') memmove(t->file + at - 1, t->file + at, t->size-- - at), t->start--;
+        else memmove(t->file + at + 1, t->file + at, t->size++ - at), t->file[at] = ',', t->start++;
+        put_number(t->file, t->start - 4, 4, t->most);
+        break;
+    }
     case 11: { /* a byte goes or comes in the text */
         size_t at = 4 + below(t->start - 4);
         if (chance(2)) memmove(t->file + at, t->file + at + 1, t->size-- - at - 1);
@@ -320,6 +341,40 @@ static void find_column_case(void) {
     size_t a = vumbarete_find_column(made.file, made.size, (uint8_t *)name, strlen(name));
     size_t b = ref_find_column(made.file, made.size, (uint8_t *)name, strlen(name));
     judge(a == b);
+}
+
+static void first_place_case(void) {
+    some_table(&made);
+    judge(vumbarete_first_place(made.file, made.size) == ref_first_place(made.file, made.size));
+}
+
+static bool same_column(vumbarete_column_answer a, vumbarete_column_answer b) {
+    return SAME_REFUSAL(a, b) && SAME(a, b, given) && SAME(a, b, name_start) && SAME(a, b, name_end) && SAME(a, b, kind) && SAME(a, b, star) &&
+           SAME(a, b, count) && SAME(a, b, key) && SAME(a, b, description_start) && SAME(a, b, description_end) && SAME(a, b, value_start) &&
+           SAME(a, b, value_end) && SAME(a, b, thematic_start) && SAME(a, b, thematic_end) && SAME(a, b, narrative_start) &&
+           SAME(a, b, narrative_end) && SAME(a, b, comma) && SAME(a, b, after);
+}
+
+/* headers with columns of both forms that were stepped through */
+static unsigned long mixed_forms;
+
+/* every step from the first place on, and one anywhere */
+static void column_step_case(void) {
+    some_table(&made);
+    bool same = true, form[2] = {false, false};
+    size_t place = vumbarete_first_place(made.file, made.size);
+    vumbarete_column_answer a, b;
+    do {
+        a = vumbarete_column_step(made.file, made.size, place), b = ref_column_step(made.file, made.size, place);
+        same = same && same_column(a, b);
+        if (a.given) form[a.comma ? 1 : 0] = true, place = a.after;
+    } while (same && a.given);
+    mixed_forms += form[0] && form[1];
+    note(a.number);
+    place = chance(20) ? (size_t)draw() : below(made.size + 3);
+    a = vumbarete_column_step(made.file, made.size, place), b = ref_column_step(made.file, made.size, place);
+    note(a.number);
+    judge(same && same_column(a, b));
 }
 
 static bool same_table(vumbarete_table_answer a, vumbarete_table_answer b) {
@@ -612,6 +667,7 @@ static void tile_tables(const made_tile *m) {
         begin_table(t, "LM\0"[below(3)], "", "-");
         for (int i = 0; i < n; i++) {
             char name[32];
+            t->bare = chance(6);
             if (source[i] == 10) {
                 add_column(t, "id", 'I', "1", 'P', "");
             } else if (source[i] == 11) {
@@ -697,6 +753,8 @@ static void empty_over(const uint8_t *file, size_t size) {
     static const uint8_t none[1];
     judge(same_header(vumbarete_header(vumbarete_lend_bytes(file, size), size), ref_header(file, size)));
     judge(vumbarete_find_column(vumbarete_lend_bytes(file, size), size, NO_BYTES) == ref_find_column(file, size, none, 0));
+    judge(vumbarete_first_place(vumbarete_lend_bytes(file, size), size) == ref_first_place(file, size));
+    judge(same_column(vumbarete_column_step(vumbarete_lend_bytes(file, size), size, 0), ref_column_step(file, size, 0)));
     judge(same_table(vumbarete_open(vumbarete_lend_bytes(file, size), size, NO_BYTES), ref_open(file, size, none, 0)));
     judge(same_table(vumbarete_judge_rows(vumbarete_lend_bytes(file, size), size, NO_BYTES), ref_judge_rows(file, size, none, 0)));
     vumbarete_row_answer a = vumbarete_row(vumbarete_lend_bytes(file, size), size, NO_BYTES, 1), b = ref_row(file, size, none, 0, 1);
@@ -774,6 +832,10 @@ int main(int argc, char **argv) {
     run("write_triplet", write_triplet_case, cases, seed);
     run("header", header_case, cases, seed);
     run("find_column", find_column_case, cases, seed);
+    run("first_place", first_place_case, cases, seed);
+    run("column_step", column_step_case, cases, seed);
+    printf("%-16s stepped through in %lu headers\n", "mixed forms", mixed_forms);
+    judge(cases < 1000 || mixed_forms > 0);
     run("open", open_case, cases, seed);
     run("judge_rows", judge_rows_case, cases, seed);
     run("row", row_case, cases, seed);

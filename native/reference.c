@@ -206,10 +206,12 @@ static refusal header_of(const uint8_t *file, size_t n, ref_layout *l) {
         expect(&r, ',');
         some(&r, in_column, 0, 80);
         expect(&r, ',');
-        for (int i = 0; i < 3; i++) {
+        for (int i = 0; i < 2; i++) {
             some(&r, in_column, 1, 12);
             expect(&r, ',');
         }
+        some(&r, in_column, 1, 12);
+        if (!r.bad && r.at < r.end && file[r.at] == ',') r.at++; /* this comma may be missing */
         expect(&r, ':');
         columns++;
         if (columns <= MOST_COLUMNS) l->column[columns - 1] = c;
@@ -254,6 +256,47 @@ size_t ref_find_column(const uint8_t *file, size_t n, const uint8_t *name, size_
     for (size_t k = 0; k < l.columns; k++)
         if (same_name(file + l.column[k].name, l.column[k].name_length, name, m)) return k + 1;
     return 0;
+}
+
+/* where the byte stands next, which it does in an accepted header */
+static size_t next_of(const uint8_t *file, size_t p, uint8_t b) {
+    while (file[p] != b) p++;
+    return p;
+}
+
+/* a column of an accepted header, its text cut at the bytes that separate */
+static vumbarete_column_answer shown_column(const uint8_t *file, const ref_column *c) {
+    vumbarete_column_answer a = {.given = 1, .kind = c->type, .count = c->count, .key = c->key};
+    a.name_start = c->name;
+    a.name_end = c->name + c->name_length;
+    size_t count = a.name_end + 3; /* past `=`, the type and `,` */
+    a.star = file[count] == '*';
+    a.description_start = next_of(file, count, ',') + 3; /* past `,`, the key and `,` */
+    a.description_end = next_of(file, a.description_start, ',');
+    a.value_start = a.description_end + 1;
+    a.value_end = next_of(file, a.value_start, ',');
+    a.thematic_start = a.value_end + 1;
+    a.thematic_end = next_of(file, a.thematic_start, ',');
+    a.narrative_start = a.narrative_end = a.thematic_end + 1;
+    while (in_column(file[a.narrative_end])) a.narrative_end++;
+    a.comma = file[a.narrative_end] == ',';
+    a.after = a.narrative_end + (a.comma ? 2 : 1);
+    return a;
+}
+
+size_t ref_first_place(const uint8_t *file, size_t n) {
+    ref_layout l;
+    return header_of(file, n, &l).number ? 0 : l.column[0].name;
+}
+
+vumbarete_column_answer ref_column_step(const uint8_t *file, size_t n, size_t place) {
+    ref_layout l;
+    refusal q = header_of(file, n, &l);
+    if (q.number) return (vumbarete_column_answer){.number = q.number, .place = q.place};
+    for (size_t k = 0; k < l.columns; k++)
+        if (l.column[k].name == place) return shown_column(file, &l.column[k]);
+    if (shown_column(file, &l.column[l.columns - 1]).after == place) return (vumbarete_column_answer){0};
+    return (vumbarete_column_answer){.number = 13, .place = place};
 }
 
 /* ---- tables */

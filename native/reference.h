@@ -34,6 +34,8 @@ typedef struct {
 vumbarete_loaded ref_load(const table_files files[4], size_t most, uint32_t *const column[10], const size_t space[10]);
 vumbarete_header_answer ref_header(const uint8_t *file, size_t n);
 size_t ref_find_column(const uint8_t *file, size_t n, const uint8_t *name, size_t m);
+size_t ref_first_place(const uint8_t *file, size_t n);
+vumbarete_column_answer ref_column_step(const uint8_t *file, size_t n, size_t place);
 vumbarete_table_answer ref_open(const uint8_t *file, size_t n, const uint8_t *index, size_t m);
 vumbarete_table_answer ref_judge_rows(const uint8_t *file, size_t n, const uint8_t *index, size_t m);
 vumbarete_row_answer ref_row(const uint8_t *file, size_t n, const uint8_t *index, size_t m, size_t row);

@@ -14,6 +14,8 @@ typedef struct {
     uint8_t index[MOST_FILE];
     size_t index_size;
     bool most, varies;
+    const char *names; /* the value table, thematic index and narrative names of the columns to come */
+    bool bare;         /* these lack their last comma */
     size_t start, columns, rows;
     uint8_t type[MOST_COLUMNS + 16];
     uint32_t count[MOST_COLUMNS + 16]; /* 0 for a star */
@@ -37,7 +39,7 @@ static inline void add_number(made_table *t, uint64_t v, int n) {
 
 static inline void begin_table(made_table *t, char order, const char *title, const char *narrative) {
     t->size = 4, t->index_size = 0, t->columns = t->rows = 0, t->varies = false;
-    t->most = order == 'M';
+    t->most = order == 'M', t->names = "-,-,-", t->bare = false;
     if (order) add_bytes(t, &order, 1);
     add_text(t, ";");
     add_text(t, title);
@@ -64,7 +66,9 @@ static inline void add_column(made_table *t, const char *name, char type, const 
     part[0] = ',', part[1] = key, part[2] = ',';
     add_text(t, part);
     add_text(t, description);
-    add_text(t, ",-,-,-,:");
+    add_text(t, ",");
+    add_text(t, t->names);
+    add_text(t, t->bare ? ":" : ",:");
 }
 
 static inline void end_header(made_table *t) {

@@ -10,10 +10,10 @@
  *     `vumbarete_lend_row`, `vumbarete_lend_numbers` and `vumbarete_lend_column` below, which never hand one on.
  *   - A bool is true or false.
  *
- * Every answer but one is a struct that begins with a refusal: `number` 0 says that nothing is refused, and `place` is 0 then; else `number`
+ * Every answer but two is a struct that begins with a refusal: `number` 0 says that nothing is refused, and `place` is 0 then; else `number`
  * and `place` are those of document 01's table, and every other member is 0, save `table` of a refused load, which says of which of the
  * four tables it speaks. A refusal changes no lent element, save that refusals 20 to 31 of `vumbarete_check` set the first 2E marks to zero.
- * The one other answer is `vumbarete_find_column`'s: a number alone, 0 for none. It refuses nothing. */
+ * The two other answers are `vumbarete_find_column`'s and `vumbarete_first_place`'s: a number alone, 0 for none. They refuse nothing. */
 #ifndef VUMBARETE_H
 #define VUMBARETE_H
 
@@ -108,6 +108,28 @@ typedef struct {
 typedef struct {
     uint32_t number;
     size_t place;
+    uint32_t given;    /* 1: a column stands there; 0: the last has been passed, or the step is refused, and all below is 0 */
+    size_t name_start; /* each field: its first byte in the file, and the byte after its last */
+    size_t name_end;
+    uint32_t kind;  /* the letter of its type */
+    uint32_t star;  /* 1: its count is `*` */
+    uint32_t count; /* 0 for a `*` */
+    uint32_t key;   /* 'P', 'U' or 'N' */
+    size_t description_start;
+    size_t description_end;
+    size_t value_start; /* the value table, the thematic index and the narrative name */
+    size_t value_end;
+    size_t thematic_start;
+    size_t thematic_end;
+    size_t narrative_start;
+    size_t narrative_end;
+    uint32_t comma; /* 1: a comma stands before the column's colon; 0: it is missing */
+    size_t after;   /* the place past the column: that of the next one */
+} vumbarete_column_answer;
+
+typedef struct {
+    uint32_t number;
+    size_t place;
     uint32_t order;
     uint32_t start;
     size_t columns;
@@ -173,6 +195,13 @@ vumbarete_header_answer vumbarete_header(const uint8_t *file, size_t file_length
 
 /* The column of a name, letters of either case, from 1; 0 where there is none or the header is refused (`vumbarete_header` says which). */
 size_t vumbarete_find_column(const uint8_t *file, size_t file_length, const uint8_t *name, size_t name_length);
+
+/* Where the first column of a header stands in the file; 0 where the header is refused. */
+size_t vumbarete_first_place(const uint8_t *file, size_t file_length);
+
+/* The column of a header that starts at the place. The header's refusals come first; past the last column none is given; 13 with the place
+ * where no column starts. From `vumbarete_first_place` on, each column's `after` is the place of the next. */
+vumbarete_column_answer vumbarete_column_step(const uint8_t *file, size_t file_length, size_t place);
 
 /* Opens a table: the header's refusals, then 8 at 0 for a needed index under 8 bytes, 15, 7 or 8. */
 vumbarete_table_answer vumbarete_open(const uint8_t *file, size_t file_length, const uint8_t *index, size_t index_length);

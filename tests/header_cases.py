@@ -13,7 +13,7 @@ def step(columns, place):
         return refused(*q.args), place
     if c is None:
         return "done", place
-    return f"{c.name}={c.kind},{c.count},{c.key},{c.description},{c.value},{c.thematic},{c.narrative}, after {c.after}", c.after
+    return f"{c.name}={c.kind},{c.count},{c.key},{c.description},{c.value},{c.thematic},{c.narrative}{',' if c.comma else ''}: after {c.after}", c.after
 
 
 def answer(file, place, name):
@@ -104,7 +104,8 @@ for name, text in VMAP.items():
 assert len(VMAP["18 edge"]) == 389
 PRINTED = VMAP["18 edge"].replace("-,:;", "-:;")
 assert len(PRINTED) == 388
-add("002 table 18 as printed", table(PRINTED), says=refused(3, 390))
+add("002 table 18 as printed", table(PRINTED), says=(392, 9, 0), place=391, name="COORDINATES")
+add("002 table 18 as printed, two commas missing", table(PRINTED.replace("-,-:;", "-:;")), says=refused(3, 388))
 add("002 table 16 as printed, a blank before the type", table(VMAP["16 entity node"].replace("id=I", "id= I", 1)), says=refused(3, 40))
 
 # 1 and 2.
@@ -158,6 +159,25 @@ for at, part in [(9, "value"), (11, "thematic"), (13, "narrative")]:
     add(f"{part} name empty", table(header(column("a", **{part: ""}), ID)), says=refused(3, start + at))
     add(f"{part} name of 12", table(header(ID, column("a", **{part: "n" * 12}))), says=(len(header(ID, column("a"))) + 4 + 11, 2, 8))
     add(f"{part} name of 13", table(header(column("a", **{part: "n" * 13}), ID)), says=refused(3, start + at + 12))
+# Document 02, No. 5: the last comma of a column may be missing, and no other; a name that is empty is not made good by it.
+for names, at in [("-,-,:", 4), ("-,-:", 3), ("-:", 1), ("-,-,,:", 4), (",,,:", 0), ("-,-,-,-:", 6)]:
+    add(f"the names `{names}`", table(header(column("a").replace("-,-,-,:", names), ID)), says=refused(3, start + 9 + at))
+for n in (1, 12):
+    text = header(column("a", narrative="n" * n, comma=False), ID)
+    add(f"no comma after a name of {n}", table(text), says=(len(text) + 4, 2, 8), place=start + 14 + n)
+add("no comma after a name of 13", table(header(column("a", narrative="n" * 13, comma=False), ID)), says=refused(3, start + 25))
+add("no colon after a name", table(header(ID[:-2], column("a"))), says=refused(3, start + len(ID) - 2 + len("a")))
+add("`;` for the colon after a name", table(header(ID[:-2])), says=refused(3, start + len(ID) - 2))
+add("`=` for the colon after a name", table(header(ID[:-2] + "=")), says=refused(3, start + len(ID) - 2))
+add("the colon twice after a name", table(header(ID[:-2] + "::")), says=refused(3, start + len(ID) - 1))
+add("the comma twice after a name", table(header(ID[:-1] + ",:")), says=refused(3, start + len(ID) - 1))
+add("the text ends after a name", table(header(ID)[:-3]), says=refused(3, start + len(ID) - 2))
+for forms in [(0, 1, 1), (1, 0, 1), (1, 1, 0), (0, 0, 0)]:
+    text = header(*[column(n, key=k, comma=c) for n, k, c in zip(["id", "a", "b"], "PNN", forms)])
+    for letter in "LM":
+        add(f"commas {forms} under {letter}", table(letter + text[1:]), says=(len(text) + 4, 3, 12), place=4 + text.index("b="), name="B")
+add("two names alike, the first without its comma", table(header(ID, column("a", comma=False), column("A"))), says=refused(5, 3))
+add("4 in a column without its comma", table(header(ID, column("a", kind="Q", comma=False))), says=refused(4, 2))
 add("a fourth name", table(header(ID[:-1] + "-,:")), says=refused(3, start + len(ID) - 1))
 add("the text ends inside a column", table(header(ID)[:20]), says=refused(3, 24))
 add("3 in column 2 before 4 in column 1", table(header(column("a", kind="Q"), column("b", count="0"))), says=refused(3, start + len(column("a")) + 4))
@@ -185,6 +205,8 @@ add("4 before 5 and 6", table(header(column("a"), column("A"), column("b", kind=
 many = [ID] + [column(f"c{k}", kind="S") for k in range(2, MOST_COLUMNS + 3)]
 M = MOST_COLUMNS
 add(f"{M} columns", table(header(*many[:M])), says=(len(header(*many[:M])) + 4, M, 4 + (M - 1) * 2), name=f"C{M}", to=longer)
+bare = [column("id", key="P", comma=False)] + [column(f"c{k}", kind="S", comma=k % 3 == 0) for k in range(2, M + 1)]
+add(f"{M} columns, two of three without their comma", table(header(*bare)), says=(len(header(*bare)) + 4, M, 4 + (M - 1) * 2), name=f"C{M}", to=longer)
 add(f"{M + 1} columns", table(header(*many[:M + 1])), says=refused(5, M + 1), to=longer)
 add(f"{M} columns under M", table(header(*many[:M], letter="M")), says=(len(header(*many[:M])) + 4, M, 4 + (M - 1) * 2), name="c2", to=longer)
 add(f"{M + 1} columns under M", table(header(*many[:M + 1], letter="M")), says=refused(5, M + 1), to=longer)

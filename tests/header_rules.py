@@ -1,4 +1,4 @@
-"""Document 01's header text as the tests have it: its grammar, its rules and limits, and header texts made of columns. The rules are
+"""Document 01's header text, as amended by document 02, as the tests have it: its grammar, its rules and limits, and header texts made of columns. The rules are
 implemented here anew, and shared by the scripts that write test cases."""
 import collections
 
@@ -11,8 +11,9 @@ PRINTABLE = set(range(32, 127))
 UNTIL_SEMICOLON = PRINTABLE - set(b";")
 PLAIN = PRINTABLE - set(b";:,=")
 Field = collections.namedtuple("Field", "least most takes then")
-COLUMN = [Field(1, 24, PLAIN, "="), Field(1, 1, PLAIN, ","), "count", Field(1, 1, PLAIN, ","), Field(0, 80, PLAIN, ",")] + 3 * [Field(1, 12, PLAIN, ",")]
-Column = collections.namedtuple("Column", "start name kind count key description value thematic narrative after")
+NAME = Field(1, 12, PLAIN, ",")
+COLUMN = [Field(1, 24, PLAIN, "="), Field(1, 1, PLAIN, ","), "count", Field(1, 1, PLAIN, ","), Field(0, 80, PLAIN, ","), NAME, NAME]
+Column = collections.namedtuple("Column", "start name kind count key description value thematic narrative comma after")
 
 
 class Refused(Exception):
@@ -36,15 +37,18 @@ class Text:
                 raise Refused(3, self.at)
             self.at += 1
 
-    def read(self, field):
+    def word(self, field):
         start = self.at
         while self.next() in field.takes and self.at - start < field.most:
             self.at += 1
         if self.at - start < field.least:
             raise Refused(3, self.at)
-        word = self.file[start:self.at]
+        return self.file[start:self.at].decode()
+
+    def read(self, field):
+        word = self.word(field)
         self.take(field.then)
-        return word.decode()
+        return word
 
     def count(self):
         if self.next() == ord("*"):
@@ -57,8 +61,10 @@ class Text:
     def column(self):
         start = self.at
         words = [self.count() if f == "count" else self.read(f) for f in COLUMN]
-        self.take(":")
-        return Column(start, *words, self.at)
+        narrative = self.word(NAME)
+        comma = self.next() == ord(",")  # the last one may be missing (document 02, No. 5)
+        self.take(",:" if comma else ":")
+        return Column(start, *words, narrative, comma, self.at)
 
     def columns(self):
         """Every column of the text, which is in the grammar, or Refused."""
@@ -151,8 +157,8 @@ def table(text, length=None, order=None, rows=b""):
     return (len(text) if length is None else length).to_bytes(4, order) + text + rows
 
 
-def column(name, kind="I", count="1", key="N", description="", value="-", thematic="-", narrative="-"):
-    return f"{name}={kind},{count},{key},{description},{value},{thematic},{narrative},:"
+def column(name, kind="I", count="1", key="N", description="", value="-", thematic="-", narrative="-", comma=True):
+    return f"{name}={kind},{count},{key},{description},{value},{thematic},{narrative}{',' if comma else ''}:"
 
 
 ID = column("id", key="P", description="Row Id")

@@ -63,6 +63,9 @@ add("one column", table(header(ID)), 13, "id")
 many = [ID] + [column(f"c{k}", kind="S", description="d" * (k % 81)) for k in range(2, MOST_COLUMNS + 1)]
 last = f"c{MOST_COLUMNS}"
 add(f"{MOST_COLUMNS} columns, from the last", table(header(*many)), 4 + header(*many).index(last), last)
+bare = [column("id", key="P", comma=False), column("a"), column("b", narrative="n" * 12, comma=False)]
+add("commas missing, from the last", table(header(*bare)), 4 + header(*bare).index("b="), "b")
+add("commas missing, from a byte before the second", table(header(*bare)), 3 + header(*bare).index("a="), refused(13, 3 + header(*bare).index("a=")))
 add("short and long names", table(header(ID, column("n"), column("N" * 24), column("-"))), 4, refused(13, 4))
 
 # A header refusal comes first, whatever the place, and the reader stays.

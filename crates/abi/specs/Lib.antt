@@ -1,3 +1,4 @@
 pub mod Plain
 pub mod PlainTables
+pub mod PlainColumns
 pub mod PlainLoads

@@ -1,6 +1,7 @@
-// The operations for callers that are not Rattle: slices and numbers in, answers as plain numbers. In every answer but that of
-// `vumbarete_find_column`, a column's number alone, number 0 says that nothing is refused; else number and place are document 01's, and all
-// other numbers of the answer are 0, save the table that a load's refusal speaks of.
+// The operations for callers that are not Rattle: slices and numbers in, answers as plain numbers. In every answer but those of
+// `vumbarete_find_column` and `vumbarete_first_place`, a number alone, number 0 says that nothing is refused; else number and place are
+// document 01's, and all other numbers of the answer are 0, save the table that a load's refusal speaks of.
+mod columns;
 mod loads;
 mod tables;
 
@@ -88,6 +89,29 @@ pub struct PlainHeader {
     pub columns: usize,
     pub id: usize,
     pub width: u32,
+}
+
+#[repr(C)]
+pub struct PlainColumn {
+    pub number: u32,
+    pub place: usize,
+    pub given: u32,
+    pub name_start: usize,
+    pub name_end: usize,
+    pub kind: u32,
+    pub star: u32,
+    pub count: u32,
+    pub key: u32,
+    pub description_start: usize,
+    pub description_end: usize,
+    pub value_start: usize,
+    pub value_end: usize,
+    pub thematic_start: usize,
+    pub thematic_end: usize,
+    pub narrative_start: usize,
+    pub narrative_end: usize,
+    pub comma: u32,
+    pub after: usize,
 }
 
 #[repr(C)]

@@ -31,7 +31,10 @@ use Rattle.triplet.specs.Written.{writtenOf}
 use Rattle.header.specs.declared.Answer.{Answer}
 use Rattle.header.specs.declared.Answer.the-variants as answer
 use Rattle.header.specs.declared.Layout.{Layout}
+use Rattle.header.specs.declared.Step.{Step}
+use Rattle.header.specs.declared.Step.the-variants as step
 use Rattle.header.specs.Layouts.{headerOf}
+use Rattle.header.specs.Steps.{stepOf}
 use Rattle.opening.specs.declared.Opened.{Opened}
 use Rattle.opening.specs.declared.Table.{Table}
 use Rattle.limits.specs.Limits.{mostRows}
@@ -63,19 +66,21 @@ use Rattle.abi.specs.declared.PlainJudgement.{PlainJudgement}
 use Rattle.abi.specs.declared.PlainTriplet.{PlainTriplet}
 use Rattle.abi.specs.declared.PlainWritten.{PlainWritten}
 use Rattle.abi.specs.declared.PlainHeader.{PlainHeader}
+use Rattle.abi.specs.declared.PlainColumn.{PlainColumn}
 use Rattle.abi.specs.declared.PlainTable.{PlainTable}
 use Rattle.abi.specs.declared.PlainRow.{PlainRow}
 use Rattle.abi.specs.declared.PlainValue.{PlainValue}
 use Rattle.abi.specs.declared.PlainRectangle.{PlainRectangle}
 use Rattle.abi.specs.declared.PlainLoaded.{PlainLoaded}
 use Rattle.abi.specs.Plain.{plainVerdict, plainSteps, plainHeight, plainJudgement, plainTriplet, plainWritten}
-use Rattle.abi.specs.PlainTables.{headed, plainHeader, opened, plainTable, rowsUnder, plainRow, rowUnder, rowIn}
+use Rattle.abi.specs.PlainTables.{headed, opened, rowsUnder, plainRow, rowUnder, rowIn}
 use Rattle.abi.specs.PlainTables.{plainValue, valueUnder, valueIn, plainRectangle, rectangleUnder, rectangleIn}
+use Rattle.abi.specs.PlainColumns.{plainColumn}
 use Rattle.abi.specs.PlainLoads.{tableNumber, plainLoaded}
-use Rattle.demands.specs.Numbers.{Among, NoneOrAmong, ofWave, ofTriplet, ofWriting, ofHeader, ofOpening, ofRow, ofValue}
+use Rattle.demands.specs.Numbers.{Among, NoneOrAmong, ofWave, ofTriplet, ofWriting, ofHeader, ofStep, ofOpening, ofRow, ofValue}
 use Rattle.demands.specs.Numbers.{ofRectangle, ofLoad, ofCheck, ofWalk}
 use Rattle.demands.specs.ForC.{Tells, withRows, ForC, toldHeight, toldJudgement, toldTriplet, toldWritten, toldHeader}
-use Rattle.demands.specs.ForC.{toldTable, toldRow, toldValue, toldRectangle, toldLoad, toldVerdict, toldSteps}
+use Rattle.demands.specs.ForC.{toldColumn, toldTable, toldRow, toldValue, toldRectangle, toldLoad, toldVerdict, toldSteps}
 use Rattle.demands.proofs.NumberLists.{has, hasAll, also, none-zero}
 use Rattle.demands.proofs.NumbersNamed as numbers
 
@@ -118,6 +123,11 @@ told-written (written.Refused q) = refuses q refl refl (λ p e. cc) (λ p e. ap 
 told-header : (a : Answer) (l : Layout) → Told answer.Refused toldHeader (λ (s : PlainHeader). s .number) a (headed a l)
 told-header answer.Accepted l = answers refl (λ q e. clash (cc))
 told-header (answer.Refused q) l = refuses q refl refl (λ p e. cc) (λ p e. ap (λ (s : PlainHeader). refusal (s .number) (s .place)) e)
+
+told-column : (a : Step) → Told step.Refused toldColumn (λ (s : PlainColumn). s .number) a (plainColumn a)
+told-column (step.Column d) = answers refl (λ q e. clash (cc))
+told-column step.Done = answers refl (λ q e. clash (cc))
+told-column (step.Refused q) = refuses q refl refl (λ p e. cc) (λ p e. ap (λ (s : PlainColumn). refusal (s .number) (s .place)) e)
 
 told-table : (a : Answer) (t : Table) → Told answer.Refused toldTable (λ (s : PlainTable). s .number) a (opened a t)
 told-table answer.Accepted t = answers refl (λ q e. clash (cc))
@@ -242,6 +252,7 @@ for-c = record {
   triplet = λ o bytes. tells (told-triplet (tripletOf o bytes)) ofTriplet refl (numbers.triplet-numbers o bytes);
   write-triplet = λ len at t. tells (told-written (writtenOf len at t)) ofWriting refl (numbers.write-numbers len at t);
   header = λ file. tells (told-header (headerOf file .answer) (headerOf file .layout)) ofHeader refl (numbers.header-numbers file);
+  column-step = λ file place. tells (told-column (stepOf file place)) ofStep refl (numbers.step-numbers file place);
   open-table = λ file index.
       tells (told-table (table file index .answer) (table file index .table)) ofOpening refl (numbers.opening-numbers file index mostRows);
   judge-rows = λ file index.

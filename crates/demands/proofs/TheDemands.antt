@@ -27,6 +27,7 @@ use Rattle.triplet.proofs.OtherBytes.{no-other-byte, same-length}
 use Rattle.wave.proofs.Exact as wave
 use Rattle.wave.proofs.Verdict as judged
 use Rattle.grammar.specs.Words.{Reading}
+use Rattle.grammar.proofs.AmendedGrammar.{amended}
 use Rattle.header.specs.Words.{AcceptedHeader}
 use Rattle.header.proofs.AcceptedExactly as accepted
 use Rattle.header.proofs.RefusedExactly as refused
@@ -198,6 +199,7 @@ demand-2 = record {
     one-reading = accepted.accepted-once file;
     refused = refused.answer-refused-exactly file;
   };
+  amended = amended;
   columns = columns-mean;
   no-columns = λ file n p w. record {
     layout = refused-blank file n p w;

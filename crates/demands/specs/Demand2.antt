@@ -34,6 +34,7 @@ use Rattle.triplet.specs.Triplet.{tripletOf, badTriplet}
 use Rattle.triplet.specs.Written.{sizeOf, writtenOf, rowAfter}
 use Rattle.triplet.specs.Words as triplet-words
 use Rattle.grammar.specs.Words.{Reading, printedMark, printedColumn}
+use Rattle.grammar.specs.Amended.{Amended}
 use Rattle.header.specs.declared.Answer.the-variants as answer
 use Rattle.header.specs.declared.Definition.{Definition}
 use Rattle.header.specs.declared.Step.the-variants as step
@@ -86,7 +87,8 @@ use Rattle.teller.specs.Text.{ownColumns, textOf}
 
 -- ======== HEADERS
 
--- a header; it is refused with n at p exactly when the test that this number names fails there and all earlier ones hold
+-- a header: "exactly the amended grammar" (document 02, No. 5), the column rules and the limits; it is refused with n at p exactly when the
+-- test that this number names fails there and all earlier ones hold
 pub record HeaderMeans (file : List ℕ) : Type 0 where
   pub accepted : (headerOf file .answer ≡ answer.Accepted) ↔ ((h : Reading) × AcceptedHeader file h)
   pub one-reading : (h k : Reading) → AcceptedHeader file h → AcceptedHeader file k → h ≡ k
@@ -296,6 +298,9 @@ pub record TextMeans (z : Sizes) (d : Directory) : Type 0 where
 
 pub record Demand2 : Type 0 where
   pub headers : (file : List ℕ) → HeaderMeans file
+  -- document 02, No. 5: "Accept a column with that comma missing. A second comma missing in that column stays refusal 3. The reading records
+  -- which form stood there .. This amends 01's header grammar"
+  pub amended : (text : List ℕ) → Amended text
   pub columns : (file : List ℕ) (h : Reading) → AcceptedHeader file h → ColumnsMean file h
   pub no-columns : (file : List ℕ) (n p : ℕ) → header.RefusedWith file n p → NoColumnsMean file n p
   pub readers : (file : RefT (List ℕ)) (h : Reading) → AcceptedHeader (now file) h → ReaderMeans file h

@@ -20,7 +20,9 @@ use Rattle.triplet.specs.Triplet.{tripletOf}
 use Rattle.triplet.specs.Written.{writtenOf}
 use Rattle.header.specs.declared.Answer.{Answer}
 use Rattle.header.specs.declared.Answer.the-variants as answer
+use Rattle.header.specs.declared.Step.the-variants as step
 use Rattle.header.specs.Layouts.{headerOf}
+use Rattle.header.specs.Steps.{stepOf}
 use Rattle.opening.specs.declared.Opened.{Opened}
 use Rattle.limits.specs.Limits.{mostRows}
 use Rattle.opening.specs.Opening.{openedOf}
@@ -44,6 +46,7 @@ use Rattle.abi.specs.declared.PlainJudgement.{PlainJudgement}
 use Rattle.abi.specs.declared.PlainTriplet.{PlainTriplet}
 use Rattle.abi.specs.declared.PlainWritten.{PlainWritten}
 use Rattle.abi.specs.declared.PlainHeader.{PlainHeader}
+use Rattle.abi.specs.declared.PlainColumn.{PlainColumn}
 use Rattle.abi.specs.declared.PlainTable.{PlainTable}
 use Rattle.abi.specs.declared.PlainRow.{PlainRow}
 use Rattle.abi.specs.declared.PlainValue.{PlainValue}
@@ -52,8 +55,9 @@ use Rattle.abi.specs.declared.PlainLoaded.{PlainLoaded}
 use Rattle.abi.specs.Plain.{plainVerdict, plainSteps, plainHeight, plainJudgement, plainTriplet, plainWritten}
 use Rattle.abi.specs.PlainTables.{plainHeader, plainTable, plainRow, rowIn, rowsJudged, plainValue, valueIn}
 use Rattle.abi.specs.PlainTables.{nowhere, plainBounds, plainRectangle, rectangleIn}
+use Rattle.abi.specs.PlainColumns.{noColumn, plainColumn}
 use Rattle.abi.specs.PlainLoads.{tableNumber, plainLoaded}
-use Rattle.demands.specs.Numbers.{Among, ofWave, ofTriplet, ofWriting, ofHeader, ofOpening, ofRow, ofValue, ofRectangle}
+use Rattle.demands.specs.Numbers.{Among, ofWave, ofTriplet, ofWriting, ofHeader, ofStep, ofOpening, ofRow, ofValue, ofRectangle}
 use Rattle.demands.specs.Numbers.{ofLoad, ofCheck, ofWalk}
 
 -- WHAT THE STRUCT s TELLS of the answer a: `refused q` is the answer that refuses with q, and `told q` the struct with its number, its
@@ -80,6 +84,9 @@ toldWritten q = record { number = q .number; place = q .place; bytes = 0 }
 
 abbrev pub toldHeader : Refusal → PlainHeader
 toldHeader q = record { number = q .number; place = q .place; order = 0; start = 0; columns = 0; id = 0; width = 0 }
+
+abbrev pub toldColumn : Refusal → PlainColumn
+toldColumn q = noColumn (q .number) (q .place)
 
 abbrev pub toldTable : Refusal → PlainTable
 toldTable q = record { number = q .number; place = q .place; order = 0; start = 0; columns = 0; id = 0; width = 0; rows = 0 }
@@ -135,7 +142,8 @@ withRows (answer.Refused p) q = answer.Refused p
 abbrev pub opened : List ℕ → List ℕ → Opened
 opened file index = openedOf file index mostRows
 
--- Each struct is the one that the operation's contract says. (`vumbarete_find_column` answers with a number and refuses nothing.)
+-- Each struct is the one that the operation's contract says. (`vumbarete_find_column` and
+-- `vumbarete_first_place` answer with a number and refuse nothing.)
 pub record ForC : Type 0 where
   pub height : (text : List ℕ)
       → Tells height.Refused toldHeight (λ (s : PlainHeight). s .number) ofWave (heightOf text) (plainHeight (heightOf text))
@@ -148,6 +156,8 @@ pub record ForC : Type 0 where
       → Tells written.Refused toldWritten (λ (s : PlainWritten). s .number) ofWriting (writtenOf len at t) (plainWritten (writtenOf len at t))
   pub header : (file : List ℕ)
       → Tells answer.Refused toldHeader (λ (s : PlainHeader). s .number) ofHeader (headerOf file .answer) (plainHeader (headerOf file))
+  pub column-step : (file : List ℕ) (place : ℕ)
+      → Tells step.Refused toldColumn (λ (s : PlainColumn). s .number) ofStep (stepOf file place) (plainColumn (stepOf file place))
   pub open-table : (file index : List ℕ)
       → Tells answer.Refused toldTable (λ (s : PlainTable). s .number) ofOpening (opened file index .answer) (plainTable (opened file index))
   pub judge-rows : (file index : List ℕ)

@@ -2,6 +2,7 @@
 -- says is answered; and after them what a request of document 02 asks for. The operations' contracts are equations with the definitions
 -- that stand here.
 use mathlib.Core.Path.{_≡_}
+use mathlib.Core.Bool.{Bool, true, false}
 use mathlib.Core.List.{List, [], _∷_, _++_, map}
 use Prim.Native.Nat.{ℕ}
 use Prim.Native.String.{String}
@@ -14,7 +15,10 @@ use Rattle.number.specs.declared.Order.{Order}
 use Rattle.number.specs.declared.Order.the-variants.{Least, Most}
 use Rattle.number.specs.Bytes.{bytesOf}
 use Rattle.header.specs.declared.Answer.the-variants as header
+use Rattle.header.specs.declared.Definition.{Definition}
+use Rattle.header.specs.declared.Step.the-variants as step
 use Rattle.header.specs.Layouts.{headerOf}
+use Rattle.header.specs.Steps.{stepOf}
 use Rattle.triplet.specs.declared.Ids.{Ids}
 use Rattle.triplet.specs.declared.Triplet.the-variants as triplet
 use Rattle.triplet.specs.declared.Written.the-variants.{Bytes}
@@ -39,6 +43,8 @@ pub data Case : Type 0 where
   rows-of : String → ℕ → ℕ → ℕ → Case
   -- the file of a header text, with this L before it, is refused
   no-header : String → ℕ → Refusal → Case
+  -- the file of a header text, with this L before it, gives a column at a place: whether its last comma stands, and the place after it
+  column-at : String → ℕ → ℕ → Bool → ℕ → Case
   -- a triplet is these bytes: they are what is written, and what it is read from
   triplet-is : Order → Ids → List ℕ → Case
   -- a type byte is refused
@@ -69,6 +75,8 @@ Holds (rows-of text L width start) =
     × (headerOf (fileOf L text) .layout .width ≡ width)
     × (headerOf (fileOf L text) .layout .start ≡ start)
 Holds (no-header text L q) = headerOf (fileOf L text) .answer ≡ header.Refused q
+Holds (column-at text L place comma after) =
+    (d : Definition) × (stepOf (fileOf L text) place ≡ step.Column d) × (d .comma ≡ comma) × (d .after ≡ after)
 -- written at the start of a row of just those bytes
 Holds (triplet-is o t s) =
     (writtenOf (length s) 0 t ≡ Bytes (length s))
@@ -96,6 +104,13 @@ All Such (c ∷ l) = Such c × All Such l
 -- P1's text
 abbrev pub ringTable : String
 ringTable = "L;Ring Table;-;id=I,1,P,Row Id,-,-,-,:fac_id=I,1,N,Face,-,-,-,:start_edge=I,1,N,Edge,-,-,-,:;"
+
+-- P1's text, its second column without the last comma, and without the last two
+abbrev pub ringTableLacking : String
+ringTableLacking = "L;Ring Table;-;id=I,1,P,Row Id,-,-,-,:fac_id=I,1,N,Face,-,-,-:start_edge=I,1,N,Edge,-,-,-,:;"
+
+abbrev pub ringTableLackingTwo : String
+ringTableLackingTwo = "L;Ring Table;-;id=I,1,P,Row Id,-,-,-,:fac_id=I,1,N,Face,-,-:start_edge=I,1,N,Edge,-,-,-,:;"
 
 -- "document 000, tile MJ21: edges 1 A-B, 2 B-C, 3 C-A; right face 2, left 1; right edges 2, 3, 1", and "first edges 1, 1, 2", by its left
 -- edges, and by ring_ptr, fac_id and start_edge of its rings. A, B and C are nodes 1, 2 and 3
@@ -190,4 +205,10 @@ cases =
     -- rings follow in its face's run. Elsewhere 0 stays refusal 29": P8's tile with such a row 1, and with the 0 in row 2 instead
     ∷ rings-of (mj21Rings (3 ∷ 1 ∷ 2 ∷ []) (1 ∷ 3 ∷ []) (1 ∷ 1 ∷ 2 ∷ []) (0 ∷ 1 ∷ 1 ∷ [])) (0 ∷ 3 ∷ 3 ∷ [])
     ∷ no-tile (mj21Rings (3 ∷ 1 ∷ 2 ∷ []) (1 ∷ 3 ∷ []) (1 ∷ 1 ∷ 2 ∷ []) (1 ∷ 0 ∷ 1 ∷ [])) (refusal 29 2)
+    -- document 02, No. 5: "Accept a column with that comma missing. A second comma missing in that column stays refusal 3. The reading records
+    -- which form stood there"
+    ∷ rows-of ringTableLacking 92 12 96
+    ∷ column-at ringTableLacking 92 19 true 42
+    ∷ column-at ringTableLacking 92 42 false 66
+    ∷ no-header ringTableLackingTwo 90 (refusal 3 63)
     ∷ []

@@ -5,8 +5,9 @@ use mathlib.Core.Logic.{inl, inr}
 use Prim.Native.Nat.{ℕ, zero, suc, _≤_}
 use native.Mathlib.Omega.{arith}
 use lib.ListN.{length, getD}
-use Rattle.laws.proofs.SeparatorLaws.{Lacks}
-use Rattle.grammar.specs.Words.{semicolon, comma, equals, star, Mark, absent, letterL, letterM, Column, Reading, printedMark}
+use Rattle.laws.proofs.SeparatorLaws.{Lacks, lacks-both}
+use Rattle.grammar.specs.Words.{semicolon, colon, comma, equals, star, Mark, absent, letterL, letterM, Form, with-comma, without-comma}
+use Rattle.grammar.specs.Words.{Column, Reading, printedMark, printedComma}
 use Rattle.grammar.specs.Words.{printedColumn, Text, Count, WellFormedColumn, WellFormed}
 use Rattle.grammar.proofs.PrintIsRead.{column-then}
 
@@ -22,6 +23,10 @@ single-lacks b x f (suc k) h e = omega arith
 count-lacks-comma : (w : List ℕ) → Count w → Lacks comma w
 count-lacks-comma w (inl e) = rw e (single-lacks comma star (λ z. omega arith))
 count-lacks-comma w (inr n) = text-lacks comma w (λ x d q. omega (arith, d)) (n .digits)
+
+comma-lacks-colon : (f : Form) → Lacks colon (printedComma f)
+comma-lacks-colon with-comma = single-lacks colon comma (λ z. omega arith)
+comma-lacks-colon without-comma = λ k h e. omega arith
 
 -- ---- a column
 
@@ -46,6 +51,13 @@ module _ (c : Column) (w : WellFormedColumn c) where
 
   pub narrative-lacks : Lacks comma (c .narrative)
   narrative-lacks = text-lacks comma (c .narrative) (λ x p. p .no-comma) (w .narrative)
+
+  pub narrative-lacks-colon : Lacks colon (c .narrative)
+  narrative-lacks-colon = text-lacks colon (c .narrative) (λ x p. p .no-colon) (w .narrative)
+
+  -- with its comma or without
+  pub last-lacks-colon : Lacks colon (c .narrative ++ printedComma (c .form))
+  last-lacks-colon = lacks-both colon (c .narrative) (printedComma (c .form)) narrative-lacks-colon (comma-lacks-colon (c .form))
 
   -- a column does not begin with `;`
   pub column-not-end : (u v : List ℕ) → printedColumn c ++ u ≡ semicolon ∷ v → ⊥

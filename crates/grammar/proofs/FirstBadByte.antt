@@ -16,7 +16,7 @@ use Rattle.grammar.specs.Words.{InGrammar, Begins, FirstBad, EndsTooSoon
 use Rattle.grammar.specs.Fields.{rule}
 use Rattle.grammar.specs.Scan.{machine, start, finish, answer, scanOf}
 use Rattle.grammar.specs.declared.Special.{Special}
-use Rattle.grammar.specs.declared.Special.the-variants.{Usual, ColumnsMayEnd, StarMayStand, ColumnIsWhole, TextIsWhole}
+use Rattle.grammar.specs.declared.Special.the-variants.{Usual, ColumnsMayEnd, StarMayStand, ColonMayStand, ColumnIsWhole, TextIsWhole}
 use Rattle.grammar.specs.declared.Spot.{Spot}
 use Rattle.grammar.specs.declared.Scan.{Scan}
 use Rattle.grammar.specs.declared.Scan.the-variants.{Columns, BadByte}
@@ -52,6 +52,7 @@ finish-says len TextIsWhole cols i e = clash (cc)
 finish-says len Usual cols i e = cc
 finish-says len ColumnsMayEnd cols i e = cc
 finish-says len StarMayStand cols i e = cc
+finish-says len ColonMayStand cols i e = cc
 finish-says len ColumnIsWhole cols i e = cc
 
 from-run : (s : List ℕ) (i : ℕ) → (InGrammar s → ⊥) → (o : End Spot) → run machine s start 0 ≡ o → answer (length s) o ≡ BadByte i → BadPlace s i

@@ -11,7 +11,7 @@ use Rattle.grammar.specs.Words.{Reading, Reads, InGrammar}
 use Rattle.grammar.specs.Fields.{rule}
 use Rattle.grammar.specs.Scan.{machine, start, finish, answer, scanOf}
 use Rattle.grammar.specs.declared.Special.{Special}
-use Rattle.grammar.specs.declared.Special.the-variants.{Usual, ColumnsMayEnd, StarMayStand, ColumnIsWhole, TextIsWhole}
+use Rattle.grammar.specs.declared.Special.the-variants.{Usual, ColumnsMayEnd, StarMayStand, ColonMayStand, ColumnIsWhole, TextIsWhole}
 use Rattle.grammar.specs.declared.Spot.{Spot}
 use Rattle.grammar.specs.declared.Scan.the-variants.{Columns}
 use Rattle.grammar.proofs.PrintIsRead.{Leads, text-in}
@@ -26,6 +26,7 @@ finish-says len TextIsWhole cols n e = (refl, cc)
 finish-says len Usual cols n e = clash (cc)
 finish-says len ColumnsMayEnd cols n e = clash (cc)
 finish-says len StarMayStand cols n e = clash (cc)
+finish-says len ColonMayStand cols n e = clash (cc)
 finish-says len ColumnIsWhole cols n e = clash (cc)
 
 accepted-out : (n : ℕ) (s : List ℕ) (len : ℕ) (o : End Spot) → run machine s start 0 ≡ o → answer len o ≡ Columns n → Leads (Final n) s start

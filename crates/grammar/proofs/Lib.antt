@@ -9,3 +9,4 @@ pub mod SpotsGoOn
 pub mod FirstBadByte
 pub mod ColumnFacts
 pub mod OneReading
+pub mod AmendedGrammar

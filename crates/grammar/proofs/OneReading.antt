@@ -3,19 +3,32 @@ use mathlib.Core.Path.{_≡_, refl, sym, _∙_}
 use mathlib.Core.List.{List, [], _∷_, _++_, append-assoc}
 use Prim.Native.Nat.{ℕ}
 use native.Mathlib.Omega.{arith}
-use Rattle.laws.proofs.SeparatorLaws.{one-cut}
+use Rattle.laws.proofs.SeparatorLaws.{Lacks, first-cut, one-cut}
 use Rattle.laws.proofs.TestLaws.{clash}
-use Rattle.grammar.specs.Words.{semicolon, comma, equals, Mark, absent, letterL, letterM, Column, Reading, printedMark, printedColumn}
+use Rattle.grammar.specs.Words.{semicolon, colon, comma, equals, Mark, absent, letterL, letterM, Form, with-comma, without-comma}
+use Rattle.grammar.specs.Words.{Column, Reading, printedMark, printedComma, printedColumn}
 use Rattle.grammar.specs.Words.{printedColumns, printed, WellFormedColumn, WellFormedColumns, WellFormed, Reads}
 use Rattle.grammar.proofs.PrintIsRead.{column-then}
 use Rattle.grammar.proofs.ColumnFacts.{name-lacks-equals, count-lacks, description-lacks, value-table-lacks, thematic-index-lacks}
-use Rattle.grammar.proofs.ColumnFacts.{narrative-lacks, column-not-end, mark-lacks-semicolon, table-description-lacks}
+use Rattle.grammar.proofs.ColumnFacts.{narrative-lacks, narrative-lacks-colon, column-not-end, mark-lacks-semicolon, table-description-lacks}
 use Rattle.grammar.proofs.ColumnFacts.{table-narrative-lacks}
 
 heads : {a b : ℕ} {u v : List ℕ} → a ∷ u ≡ b ∷ v → (a ≡ b) × (u ≡ v)
 heads e = (cc, cc)
 
 -- ---- columns
+
+-- a column's last name, which has no comma and no colon, and what ends the column
+module _ (xs ys u v : List ℕ) (a : Lacks comma xs × Lacks colon xs) (b : Lacks comma ys × Lacks colon ys) where
+  one-end : (f g : Form) → xs ++ (printedComma f ++ (colon ∷ u)) ≡ ys ++ (printedComma g ++ (colon ∷ v)) → (xs ≡ ys) × (f ≡ g) × (u ≡ v)
+  one-end with-comma with-comma e = let r = one-cut comma xs ys _ _ (a .0) (b .0) e in (r .0, refl, heads (r .1) .1)
+  one-end without-comma without-comma e = let r = one-cut colon xs ys u v (a .1) (b .1) e in (r .0, refl, r .1)
+  one-end with-comma without-comma e =
+      let r = first-cut comma colon xs ys _ _ (a .1) (b .0) e in
+      let z : comma ≡ colon = heads (r .1) .0 in absurd (omega arith)
+  one-end without-comma with-comma e =
+      let r = first-cut colon comma xs ys _ _ (a .0) (b .1) e in
+      let z : colon ≡ comma = heads (r .1) .0 in absurd (omega arith)
 
 pub one-column : (c d : Column) (u v : List ℕ) → WellFormedColumn c → WellFormedColumn d
     → printedColumn c ++ u ≡ printedColumn d ++ v → (c ≡ d) × (u ≡ v)
@@ -29,7 +42,8 @@ one-column c d u v w x e =
     let value-table = one-cut comma (c .valueTable) (d .valueTable) _ _ (value-table-lacks c w) (value-table-lacks d x) (description .1) in
     let thematic-index = one-cut comma (c .thematicIndex) (d .thematicIndex) _ _ (thematic-index-lacks c w)
     (thematic-index-lacks d x) (value-table .1) in
-    let narrative = one-cut comma (c .narrative) (d .narrative) _ _ (narrative-lacks c w) (narrative-lacks d x) (thematic-index .1) in (
+    let narrative = one-end (c .narrative) (d .narrative) u v (narrative-lacks c w, narrative-lacks-colon c w)
+    (narrative-lacks d x, narrative-lacks-colon d x) (c .form) (d .form) (thematic-index .1) in (
       (λ i.
           record {
             name = name .0 i;
@@ -40,8 +54,9 @@ one-column c d u v w x e =
             valueTable = value-table .0 i;
             thematicIndex = thematic-index .0 i;
             narrative = narrative .0 i;
+            form = narrative .1 i;
           }),
-      heads (narrative .1) .1,
+      narrative .2,
     )
 
 pub same-columns : (cs ds : List Column) → WellFormedColumns cs → WellFormedColumns ds → (u v : List ℕ)

@@ -1,6 +1,6 @@
 -- The rest of a scan past a field, a star, the end of the columns: as if each byte were read by itself.
 use mathlib.Core.Path.{_≡_, refl, sym, ap, _∙_}
-use mathlib.Core.Bool.{true, false}
+use mathlib.Core.Bool.{true}
 use mathlib.Core.List.{List}
 use Prim.Native.Nat.{ℕ, zero, suc, _+_, _≤_, _<_}
 use native.Mathlib.Omega.{arith}
@@ -13,19 +13,19 @@ use borrow.Author.Tests.{lt-ltb, ltb-true, eqb-true}
 use Rattle.laws.specs.Machine.{go}
 use Rattle.laws.proofs.MachineLaws.{run-next, run-end}
 use Rattle.laws.proofs.TestLaws.{both-true}
-use Rattle.grammar.specs.Words.{semicolon, star}
+use Rattle.grammar.specs.Words.{semicolon, colon, star}
 use Rattle.grammar.specs.Fields.{rule, printable, plain, digit, holds, allowed}
 use Rattle.grammar.specs.Scan.{spot, takes, closes, ends, stars, machine, start, answer, scanOf}
 use Rattle.grammar.specs.Serving.Passing.{restOf, stands, Run, Shut, Past}
 use Rattle.grammar.specs.Scan.{closed}
 use Rattle.grammar.specs.declared.Field.{Field}
-use Rattle.grammar.specs.declared.Field.the-variants.{OrderLetter, Name, Numeral, AfterStar, TextEnd}
+use Rattle.grammar.specs.declared.Field.the-variants.{OrderLetter, Name, Numeral, AfterStar, Narrative, TextEnd}
 use Rattle.grammar.specs.declared.Class.{Class}
 use Rattle.grammar.specs.declared.Class.the-variants.{Plain}
 use Rattle.grammar.specs.declared.Rule.{Rule}
 use Rattle.grammar.specs.declared.Spot.{Spot}
 use Rattle.grammar.specs.declared.Scan.the-variants.{Columns}
-use Rattle.grammar.proofs.MachineMoves.{take-step, close-step, end-step, star-step, not-own, own}
+use Rattle.grammar.proofs.MachineMoves.{take-step, end-step, star-step, closing, ending}
 
 pub stands-says : (s : List ℕ) (i b : ℕ) → stands s i b ≡ true → (i < length s) × (getD s i 0 ≡ b)
 unfolding stands
@@ -77,14 +77,12 @@ module _ (s : List ℕ) where
       (rest-run f cols i n (one-less r)
       ∙ rest-next (spot f n cols) (spot f (n + 1) cols) (i + n) (omega (arith, r .within)) (take-step f n cols (getD s (i + n) 0) t))
 
-  pub rest-field : (f : Field) (cols i n r : ℕ) → Run s (rule f .holds) (rule f .most) i n → Shut s i n (rule f .least) (rule f .closer) r
-      → restOf s (spot f 0 cols) i ≡ restOf s (closed f cols) r
-  rest-field f cols i n r u h =
-      let not-taken : takes f n (getD s (i + n) 0) ≡ false = rw (h .byte) (not-own f n) in
-      let shut : closes f n (getD s (i + n) 0) ≡ true = rw (h .byte) (own f n (h .enough)) in
+  -- and the byte that leads from it to another spot once it has enough
+  rest-word : (f : Field) (end : ℕ) (to : Spot) (cols i n r : ℕ) → ((n : ℕ) → rule f .least ≤ n → machine (spot f n cols) end ≡ go to)
+      → Run s (rule f .holds) (rule f .most) i n → Shut s i n (rule f .least) end r → restOf s (spot f 0 cols) i ≡ restOf s to r
+  rest-word f end to cols i n r on u h =
       rw (h .place)
-      (rest-run f cols i n u ∙ rest-next (spot f n cols) (closed f cols) (i + n) (omega (arith, h .place, h .within))
-      (close-step f n cols (getD s (i + n) 0) not-taken shut))
+      (rest-run f cols i n u ∙ rest-next (spot f n cols) to (i + n) (omega (arith, h .place, h .within)) (rw (h .byte) (on n (h .enough))))
 
   -- ---- a star; the end of the columns and of the text
 
@@ -124,12 +122,24 @@ module _ (s : List ℕ) where
       record {
         within = z .within;
         further = λ _. omega (arith, z .place);
-        same = λ _ cols. rest-field f cols i n (suc r) (rw e at b) (rw e at z);
+        same = λ _ cols. rest-word f (rule f .closer) (closed f cols) cols i n (suc r) (closing f cols) (rw e at b) (rw e at z);
       }
 
   pub past-plain : (f : Field) {u : Rule} {i n : ℕ} (r : ℕ) → u ≡ rule f → rule f .holds ≡ Plain → Run s Plain (u .most) i n
       → (0 < r → Shut s i n (u .least) (u .closer) r) → Past s i r (spot f 0) (closed f)
   past-plain f r e p b = past-field f r e (rw (e, p) (rw e at b))
+
+  -- a column's last name and a colon without its comma
+  pub past-bare : {u : Rule} {i n : ℕ} (r : ℕ) → u ≡ rule Narrative → Run s Plain (u .most) i n → (0 < r → Shut s i n (u .least) colon r)
+      → Past s i r (spot Narrative 0) (λ cols. spot Name 0 (cols + 1))
+  past-bare zero e b h = past-none
+  past-bare {u} {i} {n} (suc r) e b h =
+      let z = h (omega arith) in
+      record {
+        within = z .within;
+        further = λ _. omega (arith, z .place);
+        same = λ _ cols. rest-word Narrative colon (spot Name 0 (cols + 1)) cols i n (suc r) (ending cols) (rw e at b) (rw e at z);
+      }
 
   pub past-star : (i : ℕ) → stands s i star ≡ true → Past s i (i + 1) (spot Numeral 0) (spot AfterStar 0)
   past-star i e = record { within = omega (arith, stands-says s i star e .0); further = λ z. omega arith; same = λ z cols. rest-star cols i e }

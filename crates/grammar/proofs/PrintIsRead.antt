@@ -7,9 +7,10 @@ use native.Mathlib.Omega.{arith}
 use native.Mathlib.Nat.{add-zero, zero-add}
 use lib.ListN.{length, getD}
 use borrow.Author.Tests.{lt-ltb}
-use Rattle.laws.specs.Machine.{Accepts}
+use Rattle.laws.specs.Machine.{go, Accepts}
 use Rattle.grammar.specs.Words as words
-use Rattle.grammar.specs.Words.{semicolon, colon, comma, equals, star, Mark, absent, letterL, letterM, Column, Reading, printedMark}
+use Rattle.grammar.specs.Words.{semicolon, colon, comma, star, Mark, absent, letterL, letterM, Form, with-comma, without-comma}
+use Rattle.grammar.specs.Words.{Column, Reading, printedMark, printedComma, columnThen}
 use Rattle.grammar.specs.Words.{printedColumn, printedColumns, printed, Printable, Count, WellFormedColumn, WellFormedColumns}
 use Rattle.grammar.specs.Words.{WellFormed}
 use Rattle.grammar.specs.Fields.{rule, printable, plain, digit, holds, allowed}
@@ -20,7 +21,7 @@ use Rattle.grammar.specs.declared.Field.the-variants.{Key, Description, 
 use Rattle.grammar.specs.declared.Spot.{Spot}
 use Rattle.grammar.proofs.ByteClasses.{Holds, Word, takes-exactly, text-word}
 use Rattle.grammar.specs.Scan.{closed}
-use Rattle.grammar.proofs.MachineMoves.{take-step, close-step, star-step, not-own, own}
+use Rattle.grammar.proofs.MachineMoves.{take-step, close-step, star-step, closing, ending}
 
 -- ---- words of the paper
 
@@ -50,9 +51,7 @@ numeral-word w n = record { long = n .digits .least-bytes; short = n .digits .mo
     first (suc k) e q = omega arith
 
 -- a column's print with what follows it
-pub column-then : (c : Column) (rest : List ℕ) → printedColumn c ++ rest
-    ≡ c .name ++ (equals ∷ (c .type ∷ (comma ∷ (c .count ++ (comma ∷ (c .key ∷ (comma ∷ (c .description ++ (comma ∷
-    (c .valueTable ++ (comma ∷ (c .thematicIndex ++ (comma ∷ (c .narrative ++ (comma ∷ (colon ∷ rest))))))))))))))))
+pub column-then : (c : Column) (rest : List ℕ) → printedColumn c ++ rest ≡ columnThen c (printedComma (c .form) ++ (colon ∷ rest))
 column-then c rest = simp append-assoc
 
 -- ---- reading, for any spots P that are to be reached
@@ -61,25 +60,27 @@ module _ (P : Spot → Type 0) where
   abbrev pub Leads : List ℕ → Spot → Type 0
   Leads s st = Accepts machine P s st
 
-  pub feed : (f : Field) (cols : ℕ) (rest : List ℕ) → Leads rest (closed f cols) → (v : List ℕ) (n : ℕ)
-      → ((k : ℕ) → k < length v → Holds (rule f .holds) (n + k) (getD v k 0)) → n + length v ≤ rule f .most → rule f .least ≤ n + length v
-      → Leads (v ++ (rule f .closer ∷ rest)) (spot f n cols)
-  feed f cols rest r [] n ok short long =
-      let h : rule f .least ≤ n = omega arith in
-      rw (close-step f n cols (rule f .closer) (not-own f n) (own f n h)) r
-  feed f cols rest r (b ∷ v) n ok short long =
-      let t = takes-exactly f n b .1 (omega arith, rw add-zero at (ok 0 (omega arith))) in
-      rw (take-step f n cols b t)
-      (feed f cols rest r v (n + 1) (λ k h. subst (λ (j : ℕ). Holds (rule f .holds) j (getD v k 0)) (shift n k)
-      (ok (suc k) (omega arith))) (omega arith) (omega arith))
-    where
-      shift : (n k : ℕ) → n + suc k ≡ n + 1 + k
-      shift n k = omega arith
+  -- bytes of a field, and a byte that leads from it to another spot once it has enough
+  module _ (f : Field) (cols end : ℕ) (to : Spot) (on : (n : ℕ) → rule f .least ≤ n → machine (spot f n cols) end ≡ go to) (rest : List ℕ)
+      (r : Leads rest to) where
+    pub feed : (v : List ℕ) (n : ℕ) → ((k : ℕ) → k < length v → Holds (rule f .holds) (n + k) (getD v k 0)) → n + length v ≤ rule f .most
+        → rule f .least ≤ n + length v → Leads (v ++ (end ∷ rest)) (spot f n cols)
+    feed [] n ok short long = rw (on n (omega arith)) r
+    feed (b ∷ v) n ok short long =
+        let t = takes-exactly f n b .1 (omega arith, rw add-zero at (ok 0 (omega arith))) in
+        rw (take-step f n cols b t)
+        (feed v (n + 1) (λ k h. subst (λ (j : ℕ). Holds (rule f .holds) j (getD v k 0)) (shift n k)
+        (ok (suc k) (omega arith))) (omega arith) (omega arith))
+      where
+        shift : (n k : ℕ) → n + suc k ≡ n + 1 + k
+        shift n k = omega arith
+
+    word-in : (v : List ℕ) → Word f v → Leads (v ++ (end ∷ rest)) (spot f 0 cols)
+    word-in v w = feed v 0 (λ k h. rw zero-add (w .bytes k h)) (omega (arith, w .short)) (omega (arith, w .long))
 
   pub field-in : (f : Field) (cols : ℕ) (rest v : List ℕ) → Word f v → Leads rest (closed f cols)
       → Leads (v ++ (rule f .closer ∷ rest)) (spot f 0 cols)
-  field-in f cols rest v w r =
-      feed f cols rest r v 0 (λ k h. rw zero-add (w .bytes k h)) (omega (arith, w .short)) (omega (arith, w .long))
+  field-in f cols rest v w r = word-in f cols (rule f .closer) (closed f cols) (closing f cols) rest r v w
 
   pub end-in : (cols : ℕ) → 0 < cols → P (spot TextEnd 0 cols) → Leads (semicolon ∷ []) (spot Name 0 cols)
   unfolding ends move takes closes allowed printable holds plain
@@ -92,10 +93,17 @@ module _ (P : Spot → Type 0) where
       rw e (rw (star-step Numeral 0 cols star refl refl refl refl) (rw (close-step AfterStar 0 cols comma refl refl) r))
   count-in cols w rest (inr v) r = field-in Numeral cols rest w (numeral-word w v) r
 
+  -- a column's last name, and what ends the column
+  last-in : (form : Form) (cols : ℕ) (rest v : List ℕ) → Word Narrative v → Leads rest (spot Name 0 (cols + 1))
+      → Leads (v ++ (printedComma form ++ (colon ∷ rest))) (spot Narrative 0 cols)
+  last-in with-comma cols rest v w r =
+      field-in Narrative cols (colon ∷ rest) v w (field-in ColumnEnd cols rest [] (no-byte ColumnEnd (omega arith)) r)
+  last-in without-comma cols rest v w r = word-in Narrative cols colon (spot Name 0 (cols + 1)) (ending cols) rest r v w
+
   pub column-in : (c : Column) (cols : ℕ) (rest : List ℕ) → WellFormedColumn c → Leads rest (spot Name 0 (cols + 1))
       → Leads (printedColumn c ++ rest) (spot Name 0 cols)
   column-in c cols rest w r =
-      let from-narrative = c .narrative ++ (comma ∷ (colon ∷ rest)) in
+      let from-narrative = c .narrative ++ (printedComma (c .form) ++ (colon ∷ rest)) in
       let from-thematic-index = c .thematicIndex ++ (comma ∷ from-narrative) in
       let from-value-table = c .valueTable ++ (comma ∷ from-thematic-index) in
       let from-description = c .description ++ (comma ∷ from-value-table) in
@@ -112,8 +120,7 @@ module _ (P : Spot → Type 0) where
       (text-word ValueTable words.Plain (c .valueTable) (λ k b h. h) (w .value-table))
       (field-in ThematicIndex cols from-narrative (c .thematicIndex)
       (text-word ThematicIndex words.Plain (c .thematicIndex) (λ k b h. h) (w .thematic-index))
-      (field-in Narrative cols (colon ∷ rest) (c .narrative) (text-word Narrative words.Plain (c .narrative) (λ k b h. h) (w .narrative))
-      (field-in ColumnEnd cols rest [] (no-byte ColumnEnd (omega arith)) r)))))))))
+      (last-in (c .form) cols rest (c .narrative) (text-word Narrative words.Plain (c .narrative) (λ k b h. h) (w .narrative)) r))))))))
 
   columns-in : (cs : List Column) (cols : ℕ) → WellFormedColumns cs → 0 < cols + length cs → P (spot TextEnd 0 (cols + length cs))
       → Leads (printedColumns cs ++ (semicolon ∷ [])) (spot Name 0 cols)

@@ -2,9 +2,10 @@
 --
 -- The plan. `Leads P s st` says that the machine goes over the text s from the spot st to one of which P holds; P is any property that only
 -- the text's end has (`whole`). A field is read by induction on the text (`parse`): by `way` each byte is taken into the field, closes it,
--- ends the columns, is a star, or is barred. So the text is a word of the field, its closer and what follows (`Parsed`), or the columns end
--- here (`Over`), or a star stands here (`Starred`). Where only the first can be, that is `read`; a count is a numeral or a star
--- (`counted`). A column is nine fields one after the other; their equations between texts are put together from the last to the first,
+-- ends the columns, is a star, is a colon without its comma, or is barred. So the text is a word of the field, its closer and what follows
+-- (`Parsed`), or a word, a colon and what follows (`Parsed` too), or the columns end here (`Over`), or a star stands here (`Starred`). Where
+-- only the first can be, that is `read`; a count is a numeral or a star (`counted`), a column's last name has its comma or not
+-- (`column-ended`). A column is its fields one after the other; their equations between texts are put together from the last to the first,
 -- which gives the column's print (`column-out`). Columns follow by induction on the length of what is left, which each of them shortens
 -- (`column-shorter`, `columns-out`). The text is the mark, the two fields before the columns, and those (`text-out`).
 use mathlib.Core.Path.{_≡_, refl, sym, ap, subst, _∙_}
@@ -17,7 +18,8 @@ use lib.ListN.{length, getD, length-append}
 use Rattle.laws.specs.Machine.{Next, onNext}
 use Rattle.laws.proofs.TestLaws.{clash}
 use Rattle.grammar.specs.Words as words
-use Rattle.grammar.specs.Words.{semicolon, colon, comma, equals, star, Mark, absent, letterL, letterM, Column, Reading, printedMark}
+use Rattle.grammar.specs.Words.{semicolon, colon, comma, equals, star, Mark, absent, letterL, letterM, Form, with-comma, without-comma}
+use Rattle.grammar.specs.Words.{Column, Reading, printedMark, printedComma}
 use Rattle.grammar.specs.Words.{printedColumn, printedColumns, Printable, Count, WellFormedColumn, WellFormedColumns, WellFormed, Reads}
 use Rattle.grammar.specs.Fields.{rule}
 use Rattle.grammar.specs.Scan.{spot, machine, start}
@@ -25,11 +27,11 @@ use Rattle.grammar.specs.declared.Field.{Field}
 use Rattle.grammar.specs.declared.Field.the-variants.{OrderLetter, TableDescription, TableNarrative, Name, Kind, Numeral, AfterStar}
 use Rattle.grammar.specs.declared.Field.the-variants.{Key, Description, ValueTable, ThematicIndex, Narrative, ColumnEnd, TextEnd}
 use Rattle.grammar.specs.declared.Special.{Special}
-use Rattle.grammar.specs.declared.Special.the-variants.{Usual, ColumnsMayEnd, StarMayStand, ColumnIsWhole, TextIsWhole}
+use Rattle.grammar.specs.declared.Special.the-variants.{Usual, ColumnsMayEnd, StarMayStand, ColonMayStand, ColumnIsWhole, TextIsWhole}
 use Rattle.grammar.specs.declared.Spot.{Spot}
 use Rattle.grammar.proofs.ByteClasses.{Holds, Word, takes-exactly, word-text}
 use Rattle.grammar.specs.Scan.{closed}
-use Rattle.grammar.proofs.MachineMoves.{closes-says, Way, taken, shut, over, starred, barred, way}
+use Rattle.grammar.proofs.MachineMoves.{closes-says, Way, taken, shut, over, starred, bare, barred, way}
 use Rattle.grammar.proofs.PrintIsRead.{Leads, column-then}
 
 -- ---- words of the paper
@@ -62,17 +64,17 @@ word-numeral w h =
 
 -- ---- a field, read
 
-module _ (P : Spot → Type 0) (f : Field) (n cols : ℕ) (s : List ℕ) where
-  -- n bytes of the field have been read, then a word, its closer, and what follows
-  pub record Parsed : Type 0 where
-    pub word : List ℕ
-    pub rest : List ℕ
-    pub text : s ≡ word ++ (rule f .closer ∷ rest)
-    pub long : rule f .least ≤ n + length word
-    pub short : n + length word ≤ rule f .most
-    pub bytes : (k : ℕ) → k < length word → Holds (rule f .holds) (n + k) (getD word k 0)
-    pub next : Leads P rest (closed f cols)
+-- n bytes of the field have been read, then a word, the byte that ends it, and what follows, from another spot on
+pub record Parsed (P : Spot → Type 0) (f : Field) (least end : ℕ) (to : Spot) (n : ℕ) (s : List ℕ) : Type 0 where
+  pub word : List ℕ
+  pub rest : List ℕ
+  pub text : s ≡ word ++ (end ∷ rest)
+  pub long : least ≤ n + length word
+  pub short : n + length word ≤ rule f .most
+  pub bytes : (k : ℕ) → k < length word → Holds (rule f .holds) (n + k) (getD word k 0)
+  pub next : Leads P rest to
 
+module _ (P : Spot → Type 0) (f : Field) (n cols : ℕ) (s : List ℕ) where
   -- the columns end here
   pub record Over : Type 0 where
     pub special : rule f .special ≡ ColumnsMayEnd
@@ -91,31 +93,51 @@ module _ (P : Spot → Type 0) (f : Field) (n cols : ℕ) (s : List ℕ) where
     pub next : Leads P rest (spot AfterStar 0 cols)
 
   pub data Outcome : Type 0 where
-    parsed : Parsed → Outcome
+    parsed : Parsed P f (rule f .least) (rule f .closer) (closed f cols) n s → Outcome
     ended : Over → Outcome
     star-stands : Starred → Outcome
+    comma-lacks : rule f .special ≡ ColonMayStand → Parsed P f 1 colon (spot Name 0 (cols + 1)) n s → Outcome
 
-more : (P : Spot → Type 0) (f : Field) (n cols b : ℕ) (bs : List ℕ) → n < rule f .most → Holds (rule f .holds) n b
+-- a word is begun at the byte that ends it, and goes on to its front
+module _ (P : Spot → Type 0) (f : Field) (least end : ℕ) (to : Spot) (n : ℕ) where
+  at-its-end : (b : ℕ) (bs : List ℕ) → b ≡ end → least ≤ n → n ≤ rule f .most → Leads P bs to → Parsed P f least end to n (b ∷ bs)
+  at-its-end b bs e l m a = record {
+    word = [];
+    rest = bs;
+    text = ap (λ (c : ℕ). c ∷ bs) e;
+    long = omega arith;
+    short = omega arith;
+    bytes = λ k j. absurd (none-below k j);
+    next = a;
+  }
+    where
+      none-below : (k : ℕ) → k < 0 → ⊥
+      none-below k j = omega arith
+
+  one-before : (b : ℕ) (bs : List ℕ) → Holds (rule f .holds) n b → Parsed P f least end to (n + 1) bs → Parsed P f least end to n (b ∷ bs)
+  one-before b bs h p = record {
+    word = b ∷ p .word;
+    rest = p .rest;
+    text = ap (λ (l : List ℕ). b ∷ l) (p .text);
+    long = omega (arith, p .long);
+    short = omega (arith, p .short);
+    bytes = at;
+    next = p .next;
+  }
+    where
+      shift : (k : ℕ) → n + 1 + k ≡ n + suc k
+      shift k = omega arith
+
+      at : (k : ℕ) → k < length (b ∷ p .word) → Holds (rule f .holds) (n + k) (getD (b ∷ p .word) k 0)
+      at zero l = rw add-zero h
+      at (suc k) l = subst (λ (j : ℕ). Holds (rule f .holds) j (getD (p .word) k 0)) (shift k) (p .bytes k (omega arith))
+
+more : (P : Spot → Type 0) (f : Field) (n cols b : ℕ) (bs : List ℕ) → Holds (rule f .holds) n b
     → Outcome P f (n + 1) cols bs → Outcome P f n cols (b ∷ bs)
-more P f n cols b bs m h (ended o) = let z : ⊥ = omega (arith, o .at-start) in absurd z
-more P f n cols b bs m h (star-stands o) = let z : ⊥ = omega (arith, o .at-start) in absurd z
-more P f n cols b bs m h (parsed p) =
-    parsed (record {
-      word = b ∷ p .word;
-      rest = p .rest;
-      text = ap (λ (l : List ℕ). b ∷ l) (p .text);
-      long = omega (arith, p .long);
-      short = omega (arith, p .short);
-      bytes = at;
-      next = p .next;
-    })
-  where
-    shift : (k : ℕ) → n + 1 + k ≡ n + suc k
-    shift k = omega arith
-
-    at : (k : ℕ) → k < length (b ∷ p .word) → Holds (rule f .holds) (n + k) (getD (b ∷ p .word) k 0)
-    at zero l = rw add-zero h
-    at (suc k) l = subst (λ (j : ℕ). Holds (rule f .holds) j (getD (p .word) k 0)) (shift k) (p .bytes k (omega arith))
+more P f n cols b bs h (ended o) = let z : ⊥ = omega (arith, o .at-start) in absurd z
+more P f n cols b bs h (star-stands o) = let z : ⊥ = omega (arith, o .at-start) in absurd z
+more P f n cols b bs h (parsed p) = parsed (one-before P f _ _ _ n b bs h p)
+more P f n cols b bs h (comma-lacks e p) = comma-lacks e (one-before P f _ _ _ n b bs h p)
 
 module _ (P : Spot → Type 0) (whole : (st : Spot) → P st → rule (st .field) .special ≡ TextIsWhole) where
   parse : (f : Field) (cols : ℕ) → (rule f .special ≡ TextIsWhole → ⊥) → (s : List ℕ) (n : ℕ) → n ≤ rule f .most
@@ -128,21 +150,10 @@ module _ (P : Spot → Type 0) (whole : (st : Spot) → P st → rule (st .field
           → Outcome P f n cols (b ∷ bs)
       by _ (taken e) a ih =
           let t = takes-exactly f n b .0 e in
-          more P f n cols b bs (t .0) (t .1) (ih (omega (arith, t .0)) a)
+          more P f n cols b bs (t .1) (ih (omega (arith, t .0)) a)
       by _ (shut e) a ih =
           let t = closes-says f n b e in
-          parsed (record {
-            word = [];
-            rest = bs;
-            text = ap (λ (c : ℕ). c ∷ bs) (t .0);
-            long = omega (arith, t .1);
-            short = omega arith;
-            bytes = λ k j. absurd (none-below k j);
-            next = a;
-          })
-        where
-          none-below : (k : ℕ) → k < 0 → ⊥
-          none-below k j = omega arith
+          parsed (at-its-end P f _ _ _ n b bs (t .0) (t .1) m a)
       by _ (over e) a ih =
           ended (record {
             special = e .special;
@@ -155,6 +166,7 @@ module _ (P : Spot → Type 0) (whole : (st : Spot) → P st → rule (st .field
           })
       by _ (starred e) a ih =
           star-stands (record { special = e .special; at-start = e .at-start; rest = bs; text = ap (λ (c : ℕ). c ∷ bs) (e .byte); next = a })
+      by _ (bare e) a ih = comma-lacks (e .special) (at-its-end P f _ _ _ n b bs (e .byte) (e .some) m a)
       by _ barred a ih = absurd a
 
   -- nothing follows the end
@@ -167,6 +179,7 @@ module _ (P : Spot → Type 0) (whole : (st : Spot) → P st → rule (st .field
       by _ (shut e) a = let t = closes-says TextEnd 0 b e .1 in let z : ⊥ = omega arith in absurd z
       by _ (over e) a = clash (cc (e .special))
       by _ (starred e) a = clash (cc (e .special))
+      by _ (bare e) a = clash (cc (e .special))
       by _ barred a = absurd a
 
   -- ---- a field where nothing else can stand
@@ -176,6 +189,7 @@ module _ (P : Spot → Type 0) (whole : (st : Spot) → P st → rule (st .field
   Alone ColumnIsWhole = Unit {0}
   Alone ColumnsMayEnd = ⊥
   Alone StarMayStand = ⊥
+  Alone ColonMayStand = ⊥
   Alone TextIsWhole = ⊥
 
   -- a word of the field, its closer, and what follows
@@ -186,19 +200,15 @@ module _ (P : Spot → Type 0) (whole : (st : Spot) → P st → rule (st .field
     pub is : Word f word
     pub next : Leads P rest (closed f cols)
 
-  found : (f : Field) (cols : ℕ) (s : List ℕ) → Parsed P f 0 cols s → Found f cols s
-  found f cols s p =
-      record {
-        word = p .word;
-        rest = p .rest;
-        text = p .text;
-        is = record {
-          long = omega (arith, p .long);
-          short = omega (arith, p .short);
-          bytes = λ k l. rw zero-add at (p .bytes k l);
-        };
-        next = p .next;
-      }
+  is-word : (f : Field) (end : ℕ) (to : Spot) (s : List ℕ) (p : Parsed P f (rule f .least) end to 0 s) → Word f (p .word)
+  is-word f end to s p = record {
+    long = omega (arith, p .long);
+    short = omega (arith, p .short);
+    bytes = λ k l. rw zero-add at (p .bytes k l);
+  }
+
+  found : (f : Field) (cols : ℕ) (s : List ℕ) → Parsed P f (rule f .least) (rule f .closer) (closed f cols) 0 s → Found f cols s
+  found f cols s p = record { word = p .word; rest = p .rest; text = p .text; is = is-word f _ _ s p; next = p .next }
 
   read : (f : Field) (cols : ℕ) → Alone (rule f .special) → (s : List ℕ) → Leads P s (spot f 0 cols) → Found f cols s
   read f cols x s a = by (parse f cols (λ e. subst Alone e x) s 0 (omega arith) a)
@@ -207,6 +217,7 @@ module _ (P : Spot → Type 0) (whole : (st : Spot) → P st → rule (st .field
       by (parsed p) = found f cols s p
       by (ended o) = absurd (subst Alone (o .special) x)
       by (star-stands o) = absurd (subst Alone (o .special) x)
+      by (comma-lacks e p) = absurd (subst Alone e x)
 
   -- a count, and what follows its comma
   pub record Counted (cols : ℕ) (s : List ℕ) : Type 0 where
@@ -221,10 +232,38 @@ module _ (P : Spot → Type 0) (whole : (st : Spot) → P st → rule (st .field
       let w = found Numeral cols s p in
       record { word = w .word; rest = w .rest; text = w .text; is = inr (word-numeral (w .word) (w .is)); next = w .next }
   counted cols s (ended o) = clash (cc (o .special))
+  counted cols s (comma-lacks e p) = clash (cc e)
   counted cols s (star-stands o) =
       let w = read AfterStar cols tt (o .rest) (o .next) in
       let t : o .rest ≡ comma ∷ w .rest = w .text ∙ ap (λ (l : List ℕ). l ++ (comma ∷ w .rest)) (no-bytes (w .word) (w .is .short)) in
       record { word = star ∷ []; rest = w .rest; text = o .text ∙ ap (λ (l : List ℕ). star ∷ l) t; is = inl refl; next = w .next }
+
+  -- a column's last name, in which form the column ends, and what follows
+  pub record Ended (cols : ℕ) (s : List ℕ) : Type 0 where
+    pub word : List ℕ
+    pub form : Form
+    pub rest : List ℕ
+    pub text : s ≡ word ++ (printedComma form ++ (colon ∷ rest))
+    pub is : Word Narrative word
+    pub next : Leads P rest (spot Name 0 (cols + 1))
+
+  column-ended : (cols : ℕ) (s : List ℕ) → Outcome P Narrative 0 cols s → Ended cols s
+  column-ended cols s (parsed p) =
+      let w = found Narrative cols s p in
+      let end = read ColumnEnd cols tt (w .rest) (w .next) in
+      let t : w .rest ≡ colon ∷ end .rest = end .text ∙ ap (λ (l : List ℕ). l ++ (colon ∷ end .rest)) (no-bytes (end .word) (end .is .short)) in
+      record {
+        word = w .word;
+        form = with-comma;
+        rest = end .rest;
+        text = w .text ∙ ap (λ (l : List ℕ). w .word ++ (comma ∷ l)) t;
+        is = w .is;
+        next = end .next;
+      }
+  column-ended cols s (ended o) = clash (cc (o .special))
+  column-ended cols s (star-stands o) = clash (cc (o .special))
+  column-ended cols s (comma-lacks e p) =
+      record { word = p .word; form = without-comma; rest = p .rest; text = p .text; is = is-word Narrative _ _ s p; next = p .next }
 
   -- ---- a column, read
 
@@ -243,15 +282,15 @@ module _ (P : Spot → Type 0) (whole : (st : Spot) → P st → rule (st .field
       let description = read Description cols tt (key .rest) (key .next) in
       let value-table = read ValueTable cols tt (description .rest) (description .next) in
       let thematic-index = read ThematicIndex cols tt (value-table .rest) (value-table .next) in
-      let narrative = read Narrative cols tt (thematic-index .rest) (thematic-index .next) in
-      let end = read ColumnEnd cols tt (narrative .rest) (narrative .next) in
-      joined kind count key description value-table thematic-index narrative end
+      let narrative = column-ended cols (thematic-index .rest)
+      (parse Narrative cols (λ e. clash (cc e)) (thematic-index .rest) 0 (omega arith) (thematic-index .next)) in
+      joined kind count key description value-table thematic-index narrative
     where
       joined : (kind : Found Kind cols (name .rest)) (count : Counted cols (kind .rest))
           (key : Found Key cols (count .rest)) (description : Found Description cols (key .rest))
           (value-table : Found ValueTable cols (description .rest)) (thematic-index : Found ThematicIndex cols (value-table .rest))
-          (narrative : Found Narrative cols (thematic-index .rest)) (end : Found ColumnEnd cols (narrative .rest)) → ColumnRead cols s
-      joined kind count key description value-table thematic-index narrative end =
+          (narrative : Ended cols (thematic-index .rest)) → ColumnRead cols s
+      joined kind count key description value-table thematic-index narrative =
           let c : Column
           = record {
             name = name .word;
@@ -262,6 +301,7 @@ module _ (P : Spot → Type 0) (whole : (st : Spot) → P st → rule (st .field
             valueTable = value-table .word;
             thematicIndex = thematic-index .word;
             narrative = narrative .word;
+            form = narrative .form;
           } in
           let w : WellFormedColumn c
           = record {
@@ -274,10 +314,7 @@ module _ (P : Spot → Type 0) (whole : (st : Spot) → P st → rule (st .field
             thematic-index = word-text ThematicIndex words.Plain (thematic-index .word) (λ k b h. h) (thematic-index .is);
             narrative = word-text Narrative words.Plain (narrative .word) (λ k b h. h) (narrative .is);
           } in
-          let e₉ : narrative .rest ≡ colon ∷ end .rest = end .text
-          ∙ ap (λ (l : List ℕ). l ++ (colon ∷ end .rest)) (no-bytes (end .word) (end .is .short)) in
-          let e₈ = narrative .text ∙ ap (λ (l : List ℕ). narrative .word ++ (comma ∷ l)) e₉ in
-          let e₇ = thematic-index .text ∙ ap (λ (l : List ℕ). thematic-index .word ++ (comma ∷ l)) e₈ in
+          let e₇ = thematic-index .text ∙ ap (λ (l : List ℕ). thematic-index .word ++ (comma ∷ l)) (narrative .text) in
           let e₆ = value-table .text ∙ ap (λ (l : List ℕ). value-table .word ++ (comma ∷ l)) e₇ in
           let e₅ = description .text ∙ ap (λ (l : List ℕ). description .word ++ (comma ∷ l)) e₆ in
           let one₄ = one-byte (key .word) (key .is .long) (key .is .short) in
@@ -286,7 +323,7 @@ module _ (P : Spot → Type 0) (whole : (st : Spot) → P st → rule (st .field
           let one₂ = one-byte (kind .word) (kind .is .long) (kind .is .short) in
           let e₂ = kind .text ∙ (λ i. one₂ i ++ (comma ∷ e₃ i)) in
           let e₁ = name .text ∙ ap (λ (l : List ℕ). name .word ++ (equals ∷ l)) e₂ in
-          record { column = c; well-formed = w; rest = end .rest; text = e₁ ∙ sym (column-then c (end .rest)); next = end .next }
+          record { column = c; well-formed = w; rest = narrative .rest; text = e₁ ∙ sym (column-then c (narrative .rest)); next = narrative .next }
 
   column-shorter : (cols : ℕ) (s : List ℕ) (r : ColumnRead cols s) → length (r .rest) < length s
   column-shorter cols s r = omega (arith, simp length-append at (ap length (r .text ∙ column-then (r .column) (r .rest))))
@@ -303,6 +340,7 @@ module _ (P : Spot → Type 0) (whole : (st : Spot) → P st → rule (st .field
   columns-by : (cols : ℕ) (s : List ℕ) → ((r : List ℕ) → length r < length s → Leads P r (spot Name 0 (cols + 1)) → ColumnsRead (cols + 1) r)
       → Outcome P Name 0 cols s → ColumnsRead cols s
   columns-by cols s ih (star-stands o) = clash (cc (o .special))
+  columns-by cols s ih (comma-lacks e p) = clash (cc e)
   columns-by cols s ih (ended o) =
       let e = ends-here cols (o .rest) (o .next) in
       record {

@@ -8,9 +8,9 @@ use mathlib.Core.Bool.{Bool, true, false, cond}
 use Prim.Native.Nat.{ℕ, _+_, _≤_}
 use native.Mathlib.Omega.{arith}
 use Rattle.grammar.specs.Fields.{rule}
-use Rattle.grammar.specs.Scan.{takes, closes, ends, stars, columnsAfter, move, machine, start, finish, answer, scanOf}
+use Rattle.grammar.specs.Scan.{takes, closes, ends, stars, lacksComma, columnsAfter, move, machine, start, finish, answer, scanOf}
 use Rattle.grammar.specs.declared.Special.{Special}
-use Rattle.grammar.specs.declared.Special.the-variants.{Usual, ColumnsMayEnd, StarMayStand, ColumnIsWhole, TextIsWhole}
+use Rattle.grammar.specs.declared.Special.the-variants.{Usual, ColumnsMayEnd, StarMayStand, ColonMayStand, ColumnIsWhole, TextIsWhole}
 use Rattle.grammar.specs.declared.Spot.{Spot}
 use Rattle.grammar.specs.declared.Move.{Move}
 use Rattle.grammar.specs.declared.Move.the-variants.{To, Stop}
@@ -34,6 +34,7 @@ one-more : (k : Special) (cols i : ℕ) → cols ≤ i → columnsAfter k cols �
 one-more Usual cols i h = omega arith
 one-more ColumnsMayEnd cols i h = omega arith
 one-more StarMayStand cols i h = omega arith
+one-more ColonMayStand cols i h = omega arith
 one-more ColumnIsWhole cols i h = omega arith
 one-more TextIsWhole cols i h = omega arith
 
@@ -44,13 +45,15 @@ bound-move i s b h =
     (either (BoundMove (i + 1)) (closes (s .field) (s .n) b)
     (record { n = omega arith; cols = one-more (rule (s .field) .special) (s .cols) i (h .cols) })
     (either (BoundMove (i + 1)) (ends (rule (s .field) .special) (s .n) (s .cols) b) (omega arith)
-    (either (BoundMove (i + 1)) (stars (rule (s .field) .special) (s .n) b) (omega arith) tt)))
+    (either (BoundMove (i + 1)) (stars (rule (s .field) .special) (s .n) b) (omega arith)
+    (either (BoundMove (i + 1)) (lacksComma (rule (s .field) .special) (s .n) b) (omega arith) tt))))
 
 -- a bad byte is a place of the text, or its length
 finish-within : (n : ℕ) (k : Special) (cols i : ℕ) → finish n k cols ≡ BadByte i → i ≤ n
 finish-within n Usual cols i e = let h : i ≡ n = cc in omega arith
 finish-within n ColumnsMayEnd cols i e = let h : i ≡ n = cc in omega arith
 finish-within n StarMayStand cols i e = let h : i ≡ n = cc in omega arith
+finish-within n ColonMayStand cols i e = let h : i ≡ n = cc in omega arith
 finish-within n ColumnIsWhole cols i e = let h : i ≡ n = cc in omega arith
 finish-within n TextIsWhole cols i e = let z : _≡_ {A = ℕ} 0 1 = cc in absurd (omega (arith, z))
 

@@ -18,7 +18,7 @@ use Rattle.grammar.specs.declared.Special.the-variants.{TextIsWhole}
 use Rattle.grammar.specs.declared.Spot.{Spot}
 use Rattle.grammar.proofs.ByteClasses.{Word, takes-exactly}
 use Rattle.grammar.specs.Scan.{closed}
-use Rattle.grammar.proofs.MachineMoves.{Way, taken, shut, over, starred, barred, way}
+use Rattle.grammar.proofs.MachineMoves.{closing, Way, taken, shut, over, starred, bare, barred, way}
 use Rattle.grammar.proofs.PrintIsRead.{Leads, feed, field-in, end-in, one-byte, no-byte}
 
 -- the text is whole
@@ -40,6 +40,7 @@ ok-keeps st b st′ ok e = by (machine st b) (way (st .field) (st .n) (st .cols)
     by _ (shut t) q = same q (omega arith)
     by _ (over t) q = same q (omega arith)
     by _ (starred t) q = same q (omega arith)
+    by _ (bare t) q = same q (omega arith)
     by _ barred q = clash (cc)
 
 -- `-`, the name for none
@@ -105,7 +106,10 @@ module _ (cols : ℕ) where
       → (rule f .least ≡ 1 → GoesOn (spot f 0 cols)) → GoesOn (spot f n cols)
   after f n l m g h =
       by-cases (decLe (rule f .least) n)
-      (λ c. (rule f .closer ∷ g .0, feed Whole f cols (g .0) (g .1) [] n (λ k j. absurd (none k j)) (omega arith) (omega arith)))
+      (λ c. (
+        rule f .closer ∷ g .0,
+        feed Whole f cols (rule f .closer) (closed f cols) (closing f cols) (g .0) (g .1) [] n (λ k j. absurd (none k j)) (omega arith) (omega arith),
+      ))
       (λ c.
       let z : n ≡ 0 = omega arith in
       let o : rule f .least ≡ 1 = omega arith in

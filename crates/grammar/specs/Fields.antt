@@ -9,7 +9,7 @@ use Rattle.grammar.specs.declared.Field.the-variants.{Key, Description, 
 use Rattle.grammar.specs.declared.Class.{Class}
 use Rattle.grammar.specs.declared.Class.the-variants.{Letters, NoSemicolon, Plain, Digits}
 use Rattle.grammar.specs.declared.Special.{Special}
-use Rattle.grammar.specs.declared.Special.the-variants.{Usual, ColumnsMayEnd, StarMayStand, ColumnIsWhole, TextIsWhole}
+use Rattle.grammar.specs.declared.Special.the-variants.{Usual, ColumnsMayEnd, StarMayStand, ColonMayStand, ColumnIsWhole, TextIsWhole}
 use Rattle.grammar.specs.declared.Rule.{Rule}
 
 -- least and most bytes, which bytes, the byte that closes the field, the field after it, and what is special
@@ -28,7 +28,8 @@ rule Key = asks 1 1 Plain comma Description Usual
 rule Description = asks 0 80 Plain comma ValueTable Usual
 rule ValueTable = asks 1 12 Plain comma ThematicIndex Usual
 rule ThematicIndex = asks 1 12 Plain comma Narrative Usual
-rule Narrative = asks 1 12 Plain comma ColumnEnd Usual
+-- "Accept a column with that comma missing."
+rule Narrative = asks 1 12 Plain comma ColumnEnd ColonMayStand
 rule ColumnEnd = asks 0 0 Plain colon Name ColumnIsWhole
 -- nothing more: no byte is taken and none closes it
 rule TextEnd = asks 1 0 Plain semicolon TextEnd TextIsWhole

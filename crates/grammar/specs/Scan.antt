@@ -5,12 +5,12 @@ use Prim.Native.Nat.{ℕ, _+_}
 use lib.ListN.{length}
 use lib.Dec.{ltb, leb, eqb}
 use Rattle.laws.specs.Machine.{End, ended, stuck, Next, go, stop, run}
-use Rattle.grammar.specs.Words.{semicolon, star}
+use Rattle.grammar.specs.Words.{semicolon, colon, star}
 use Rattle.grammar.specs.Fields.{rule, allowed}
 use Rattle.grammar.specs.declared.Field.{Field}
-use Rattle.grammar.specs.declared.Field.the-variants.{OrderLetter, AfterStar, TextEnd}
+use Rattle.grammar.specs.declared.Field.the-variants.{OrderLetter, Name, AfterStar, TextEnd}
 use Rattle.grammar.specs.declared.Special.{Special}
-use Rattle.grammar.specs.declared.Special.the-variants.{Usual, ColumnsMayEnd, StarMayStand, ColumnIsWhole, TextIsWhole}
+use Rattle.grammar.specs.declared.Special.the-variants.{Usual, ColumnsMayEnd, StarMayStand, ColonMayStand, ColumnIsWhole, TextIsWhole}
 use Rattle.grammar.specs.declared.Spot.{Spot}
 use Rattle.grammar.specs.declared.Move.{Move}
 use Rattle.grammar.specs.declared.Move.the-variants.{To, Stop}
@@ -34,6 +34,7 @@ unfoldable pub ends : Special → ℕ → ℕ → ℕ → Bool
 ends ColumnsMayEnd n cols b = cond (eqb b semicolon) (cond (eqb n 0) (ltb 0 cols) false) false
 ends Usual n cols b = false
 ends StarMayStand n cols b = false
+ends ColonMayStand n cols b = false
 ends ColumnIsWhole n cols b = false
 ends TextIsWhole n cols b = false
 
@@ -42,8 +43,18 @@ unfoldable pub stars : Special → ℕ → ℕ → Bool
 stars StarMayStand n b = cond (eqb b star) (eqb n 0) false
 stars Usual n b = false
 stars ColumnsMayEnd n b = false
+stars ColonMayStand n b = false
 stars ColumnIsWhole n b = false
 stars TextIsWhole n b = false
+
+-- after 1 byte at least of a column's last name, `:` ends the column: "Accept a column with that comma missing."
+unfoldable pub lacksComma : Special → ℕ → ℕ → Bool
+lacksComma ColonMayStand n b = cond (eqb b colon) (ltb 0 n) false
+lacksComma Usual n b = false
+lacksComma ColumnsMayEnd n b = false
+lacksComma StarMayStand n b = false
+lacksComma ColumnIsWhole n b = false
+lacksComma TextIsWhole n b = false
 
 -- the columns that are whole once the field is closed
 abbrev pub columnsAfter : Special → ℕ → ℕ
@@ -51,6 +62,7 @@ columnsAfter ColumnIsWhole cols = cols + 1
 columnsAfter Usual cols = cols
 columnsAfter ColumnsMayEnd cols = cols
 columnsAfter StarMayStand cols = cols
+columnsAfter ColonMayStand cols = cols
 columnsAfter TextIsWhole cols = cols
 
 -- where the byte that closes a field leads
@@ -59,7 +71,10 @@ closed f cols = spot (rule f .next) 0 (columnsAfter (rule f .special) cols)
 
 -- what a byte does that is not taken into the field and does not close it, and what one does that is not taken into the field
 abbrev pub specialMove : Special → ℕ → ℕ → ℕ → Move
-specialMove k n cols b = cond (ends k n cols b) (To (spot TextEnd 0 cols)) (cond (stars k n b) (To (spot AfterStar 0 cols)) Stop)
+specialMove k n cols b =
+    cond (ends k n cols b) (To (spot TextEnd 0 cols))
+    (cond (stars k n b) (To (spot AfterStar 0 cols))
+    (cond (lacksComma k n b) (To (spot Name 0 (cols + 1))) Stop))
 
 abbrev pub pastMove : Field → ℕ → ℕ → ℕ → Move
 pastMove f n cols b = cond (closes f n b) (To (closed f cols)) (specialMove (rule f .special) n cols b)
@@ -83,6 +98,7 @@ finish n TextIsWhole cols = Columns cols
 finish n Usual cols = BadByte n
 finish n ColumnsMayEnd cols = BadByte n
 finish n StarMayStand cols = BadByte n
+finish n ColonMayStand cols = BadByte n
 finish n ColumnIsWhole cols = BadByte n
 
 abbrev pub answer : ℕ → End Spot → Scan

@@ -28,7 +28,12 @@ pub data Mark : Type 0 where
   letterL : Mark
   letterM : Mark
 
--- a column's eight fields. Type and key "are one byte each"
+-- document 02, No. 5: "Document 01 demands a comma before each colon. .. Accept a column with that comma missing."
+pub data Form : Type 0 where
+  with-comma : Form
+  without-comma : Form
+
+-- a column's eight fields, and "which form stood there". Type and key "are one byte each"
 pub record Column : Type 0 where
   pub name : List ℕ
   pub type : ℕ
@@ -38,6 +43,7 @@ pub record Column : Type 0 where
   pub valueTable : List ℕ
   pub thematicIndex : List ℕ
   pub narrative : List ℕ
+  pub form : Form
 
 pub record Reading : Type 0 where
   pub mark : Mark
@@ -52,12 +58,20 @@ printedMark absent = []
 printedMark letterL = 76 ∷ []
 printedMark letterM = 77 ∷ []
 
+abbrev pub printedComma : Form → List ℕ
+printedComma with-comma = comma ∷ []
+printedComma without-comma = []
+
 -- "name (1 to 24), `=`, type, `,`, count, `,`, key, `,`, description (0 to 80), `,`, then value table, thematic index and narrative
--- names (1 to 12 each), each followed by `,`, then `:`"
-abbrev pub printedColumn : Column → List ℕ
-printedColumn c =
+-- names (1 to 12 each), each followed by `,`, then `:`": up to the narrative name, and what follows it
+abbrev pub columnThen : Column → List ℕ → List ℕ
+columnThen c rest =
     c .name ++ (equals ∷ (c .type ∷ (comma ∷ (c .count ++ (comma ∷ (c .key ∷ (comma ∷ (c .description ++ (comma ∷
-    (c .valueTable ++ (comma ∷ (c .thematicIndex ++ (comma ∷ (c .narrative ++ (comma ∷ (colon ∷ []))))))))))))))))
+    (c .valueTable ++ (comma ∷ (c .thematicIndex ++ (comma ∷ (c .narrative ++ rest))))))))))))))
+
+-- the comma before the colon as the form says
+abbrev pub printedColumn : Column → List ℕ
+printedColumn c = columnThen c (printedComma (c .form) ++ (colon ∷ []))
 
 abbrev pub printedColumns : List Column → List ℕ
 printedColumns [] = []

@@ -3,7 +3,7 @@ ghost use mathlib.Core.Path.{_≡_};
 ghost use Prim.Native.Nat.{_+_, _≤_, _<_, _^_};
 ghost use lib.ListN.{length};
 ghost use Rattle.grammar.specs.Fields.{asks, rule, printable, letter, plain, digit, holds, allowed};
-ghost use Rattle.grammar.specs.Scan.{takes, closes, ends, stars, columnsAfter, closed, specialMove, pastMove, move, finish, spot, scanOf};
+ghost use Rattle.grammar.specs.Scan.{takes, closes, ends, stars, lacksComma, columnsAfter, closed, specialMove, pastMove, move, finish, spot, scanOf};
 ghost use Rattle.grammar.specs.Serving.Passing.{stands, Run, Shut, Past};
 
 // The fields of the text in their order; of a column from Name to ColumnEnd.
@@ -32,12 +32,13 @@ pub enum Class {
     Digits,
 }
 
-// What is special of a field: at its start `;` may end the columns, or a star may stand for the count; closing it makes a column
-// whole; the text is whole.
+// What is special of a field: at its start `;` may end the columns, or a star may stand for the count; after its bytes `:` may stand
+// without the comma; closing it makes a column whole; the text is whole.
 pub enum Special {
     Usual,
     ColumnsMayEnd,
     StarMayStand,
+    ColonMayStand,
     ColumnIsWhole,
     TextIsWhole,
 }
@@ -155,7 +156,14 @@ fn rule_of(field: Field) -> Rule
             Field::Narrative,
             Special::Usual,
         ),
-        Field::Narrative => asks_for(1, 12, Class::Plain, b',', Field::ColumnEnd, Special::Usual),
+        Field::Narrative => asks_for(
+            1,
+            12,
+            Class::Plain,
+            b',',
+            Field::ColumnEnd,
+            Special::ColonMayStand,
+        ),
         Field::ColumnEnd => asks_for(
             0,
             0,
@@ -277,6 +285,7 @@ fn ends_columns(special: Special, n: usize, cols: usize, byte: u8) -> bool
         }
         Special::Usual => false,
         Special::StarMayStand => false,
+        Special::ColonMayStand => false,
         Special::ColumnIsWhole => false,
         Special::TextIsWhole => false,
     }
@@ -290,6 +299,21 @@ fn is_star(special: Special, n: usize, byte: u8) -> bool
         Special::StarMayStand => { if byte == b'*' { n == 0 } else { false } }
         Special::Usual => false,
         Special::ColumnsMayEnd => false,
+        Special::ColonMayStand => false,
+        Special::ColumnIsWhole => false,
+        Special::TextIsWhole => false,
+    }
+}
+
+// Whether the byte is the colon of a column that lacks its last comma.
+fn lacks_comma(special: Special, n: usize, byte: u8) -> bool
+    ensures { λ r. ⌜ r ≡ lacksComma special n byte ⌝ }
+{
+    match special {
+        Special::ColonMayStand => { if byte == b':' { 0 < n } else { false } }
+        Special::Usual => false,
+        Special::ColumnsMayEnd => false,
+        Special::StarMayStand => false,
         Special::ColumnIsWhole => false,
         Special::TextIsWhole => false,
     }
@@ -305,12 +329,14 @@ fn columns_after(special: Special, cols: usize) -> usize
         Special::Usual => cols,
         Special::ColumnsMayEnd => cols,
         Special::StarMayStand => cols,
+        Special::ColonMayStand => cols,
         Special::TextIsWhole => cols,
     }
 }
 
 // What a byte does to a reading that neither takes it into its field nor closes the field by it.
 fn step_specially(special: Special, n: usize, cols: usize, byte: u8) -> Move
+    requires { ⌜ cols + 1 < 2 ^ 64 ⌝ }
     ensures { λ r. ⌜ r ≡ specialMove special n cols byte ⌝ }
 {
     if ends_columns(special, n, cols, byte) {
@@ -324,6 +350,12 @@ fn step_specially(special: Special, n: usize, cols: usize, byte: u8) -> Move
             field: Field::AfterStar,
             n: 0,
             cols: cols,
+        })
+    } else if lacks_comma(special, n, byte) {
+        Move::To(Spot {
+            field: Field::Name,
+            n: 0,
+            cols: cols + 1,
         })
     } else {
         Move::Stop
@@ -377,6 +409,7 @@ fn finish_at(n: usize, special: Special, cols: usize) -> Scan
         Special::Usual => Scan::BadByte(n),
         Special::ColumnsMayEnd => Scan::BadByte(n),
         Special::StarMayStand => Scan::BadByte(n),
+        Special::ColonMayStand => Scan::BadByte(n),
         Special::ColumnIsWhole => Scan::BadByte(n),
     }
 }
@@ -518,6 +551,26 @@ fn past_count(text: &[u8], from: usize) -> usize
     }
 }
 
+// The place past a column's last name and what ends the column, `,` and `:` or `:` alone; or 0.
+fn past_last(text: &[u8], from: usize) -> usize
+    requires { ⌜ from ≤ length (now text) ⌝ }
+    ensures { λ r. ⌜ (0 < r → 0 < from) × Past (now (text .entry)) from r (spot Field.Narrative 0) (λ cols. spot Field.Name 0 (cols + 1)) ⌝ }
+{
+    if from == 0 {
+        return 0;
+    }
+    let rule = rule_of(Field::Narrative);
+    let n = run_of_plain(text, from, rule.most);
+    if stands_at(text, from + n, b':') {
+        return past_closer(text, from, n, rule.least, b':');
+    }
+    past_plain(
+        text,
+        past_closer(text, from, n, rule.least, rule.closer),
+        Field::ColumnEnd,
+    )
+}
+
 // The place past a column; or 0.
 fn past_column(text: &[u8], from: usize) -> usize
     requires { ⌜ from ≤ length (now text) ⌝ }
@@ -530,8 +583,7 @@ fn past_column(text: &[u8], from: usize) -> usize
     let at = past_plain(text, at, Field::Description);
     let at = past_plain(text, at, Field::ValueTable);
     let at = past_plain(text, at, Field::ThematicIndex);
-    let at = past_plain(text, at, Field::Narrative);
-    past_plain(text, at, Field::ColumnEnd)
+    past_last(text, at)
 }
 
 // The place past what stands before the columns; or 0.

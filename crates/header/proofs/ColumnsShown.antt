@@ -1,25 +1,27 @@
 -- In a head whose text is the print of a well-formed reading, seeking the separators finds each column's print, and the definition
 -- there shows the column.
 use mathlib.Core.Path.{_≡_, refl, sym, ap, _∙_}
-use mathlib.Core.Logic.{inl, inr}
+use mathlib.Core.Logic.{_↔_, inl, inr}
 use mathlib.Core.Bool.{true}
-use mathlib.Core.List.{List, [], _∷_, _++_, append-assoc}
-use Prim.Native.Nat.{ℕ, zero, suc, _+_, _-_, _≤_, _<_}
+use mathlib.Core.List.{List, [], _∷_, _++_, append-assoc, append-nil}
+use Prim.Native.Nat.{ℕ, zero, suc, pred, _+_, _-_, _≤_, _<_}
 use native.Mathlib.Omega.{arith}
 use native.Mathlib.Nat.{add-zero}
-use lib.Dec.{eqb}
-use lib.ListN.{length, getD, take, drop, length-append}
+use lib.Dec.{eqb, ltb}
+use lib.ListN.{length, getD, take, drop, length-append, List·getD-append}
 use lib.Seq.{drop-cons, drop-length, take-all, getD-drop}
-use borrow.Author.Tests.{lt-ltb, ne-eqb, eqb-true, eq-eqb}
+use borrow.Author.Tests.{lt-ltb, ltb-true, ne-eqb, eqb-true, eq-eqb}
 use Rattle.laws.proofs.SeparatorLaws.{Lacks, lacks-tail}
+use Rattle.laws.proofs.TestLaws.{clash}
 use Rattle.laws.proofs.PlaceLaws.{stands-inside, stands-byte, stands-past, stands-next, stands-part}
-use Rattle.grammar.specs.Words.{semicolon, colon, comma, equals, star, Column, Reading, printedMark, printedColumn, printedColumns, printed}
+use Rattle.grammar.specs.Words.{semicolon, colon, comma, equals, star, Form, with-comma, without-comma, Column, Reading, printedMark}
+use Rattle.grammar.specs.Words.{printedComma, printedColumn, printedColumns, printed}
 use Rattle.grammar.specs.Words.{Numeral, Count, WellFormedColumn, WellFormedColumns, Reads}
 use Rattle.grammar.proofs.PrintIsRead.{column-then}
 use Rattle.grammar.proofs.ColumnFacts.{name-lacks-equals, count-lacks, description-lacks, value-table-lacks, thematic-index-lacks}
-use Rattle.grammar.proofs.ColumnFacts.{narrative-lacks, mark-lacks-semicolon, table-description-lacks, table-narrative-lacks}
+use Rattle.grammar.proofs.ColumnFacts.{narrative-lacks, last-lacks-colon, mark-lacks-semicolon, table-description-lacks, table-narrative-lacks}
 use Rattle.header.specs.Places.{before, seek, decimal, countOf, part, span, nameEnd, countEnd, descriptionEnd, valueTableEnd}
-use Rattle.header.specs.Places.{thematicIndexEnd, narrativeEnd, definition, firstPlace, placeAfter, column}
+use Rattle.header.specs.Places.{thematicIndexEnd, columnEnd, lastEnd, narrativeEnd, definition, firstPlace, placeAfter, column}
 use Rattle.header.specs.Words.{noColumn, columnAt, Shows}
 
 -- ---- the first separator
@@ -66,15 +68,40 @@ star-first (x ∷ w) t (inr v) =
 
 print-length : (c : Column) → length (printedColumn c)
     ≡ length (c .name) + length (c .count) + length (c .description) + length (c .valueTable) + length
-    (c .thematicIndex) + length (c .narrative) + 11
+    (c .thematicIndex) + length (c .narrative) + length (printedComma (c .form)) + 10
 print-length c = simp length-append (omega arith)
+
+-- ---- where a column's last name ends, and whether its comma stands
+
+module _ (s : List ℕ) (q : ℕ) (xs : List ℕ) (some : 1 ≤ length xs) (l : Lacks comma xs) where
+  -- the name's last byte is no comma
+  last-byte : (t : List ℕ) → drop q s ≡ xs ++ t → getD s (pred (q + length xs)) 0 ≡ comma → ⊥
+  last-byte t e z =
+      let k = pred (length xs) in
+      let j : pred (q + length xs) ≡ q + k = omega arith in
+      l k (omega arith) (sym (List·getD-append xs t 0 k (omega arith)) ∙ ap (λ (w : List ℕ). getD w k 0) (sym e) ∙ getD-drop q s k 0
+      ∙ ap (λ (w : ℕ). getD s w 0) (sym j) ∙ z)
+
+  -- e is the colon that ends a column of the form, whose last name is xs
+  last-ends : (f : Form) (t : List ℕ) (e : ℕ) → drop q s ≡ xs ++ (printedComma f ++ t) → e ≡ q + length (xs ++ printedComma f)
+      → (lastEnd s e ≡ q + length xs) × ((ltb (lastEnd s e) e ≡ true) ↔ (f ≡ with-comma))
+  last-ends with-comma t e d h =
+      let k : pred e ≡ q + length xs = omega (arith, h, length-append xs (comma ∷ [])) in
+      let b : getD s (pred e) 0 ≡ comma = rw k (stands-byte s (q + length xs) comma t (stands-past s q xs (comma ∷ t) d)) in
+      let r : lastEnd s e ≡ q + length xs = rw (eq-eqb (getD s (pred e) 0) comma b) k in
+      (r, (λ _. refl, λ _. lt-ltb (lastEnd s e) e (omega (arith, r, h, length-append xs (comma ∷ [])))))
+  last-ends without-comma t e d h =
+      let k : e ≡ q + length xs = h ∙ ap (λ (w : List ℕ). q + length w) (append-nil xs) in
+      let b : getD s (pred e) 0 ≡ comma → ⊥ = rw k (last-byte t d) in
+      let r : lastEnd s e ≡ e = rw (ne-eqb (getD s (pred e) 0) comma b) in
+      (r ∙ k, (λ z. absurd (omega (arith, r, ltb-true (lastEnd s e) e z)), λ z. clash (cc z)))
 
 moved : (s : List ℕ) (p q : ℕ) (t : List ℕ) → p ≡ q → drop p s ≡ t → drop q s ≡ t
 moved s p q t e h = rw (← e) h
 
 module _ (s : List ℕ) (p : ℕ) (c : Column) (rest : List ℕ) (w : WellFormedColumn c) (e : drop p s ≡ printedColumn c ++ rest) where
   abbrev from-narrative : List ℕ
-  from-narrative = c .narrative ++ (comma ∷ (colon ∷ rest))
+  from-narrative = c .narrative ++ (printedComma (c .form) ++ (colon ∷ rest))
 
   abbrev from-thematic-index : List ℕ
   from-thematic-index = c .thematicIndex ++ (comma ∷ from-narrative)
@@ -136,11 +163,34 @@ module _ (s : List ℕ) (p : ℕ) (c : Column) (rest : List ℕ) (w : WellFormed
   thematic-index-end : thematicIndexEnd s p ≡ valueTableEnd s p + 1 + length (c .thematicIndex)
   thematic-index-end = seek-to s (valueTableEnd s p + 1) comma (c .thematicIndex) from-narrative thematic-index-stands (thematic-index-lacks c w)
 
-  narrative-end : narrativeEnd s p ≡ thematicIndexEnd s p + 1 + length (c .narrative)
-  narrative-end = seek-to s (thematicIndexEnd s p + 1) comma (c .narrative) (colon ∷ rest) narrative-stands (narrative-lacks c w)
+  column-end : columnEnd s p ≡ thematicIndexEnd s p + 1 + length (c .narrative ++ printedComma (c .form))
+  column-end = seek-to s (thematicIndexEnd s p + 1) colon (c .narrative ++ printedComma (c .form)) rest
+      (narrative-stands ∙ sym (append-assoc (c .narrative) (printedComma (c .form)) (colon ∷ rest))) (last-lacks-colon c w)
 
-  after-print : narrativeEnd s p + 2 ≡ p + length (printedColumn c)
-  after-print = omega (arith, name-end, count-end, description-end, value-table-end, thematic-index-end, narrative-end, print-length c)
+  last-shown : (narrativeEnd s p ≡ thematicIndexEnd s p + 1 + length (c .narrative))
+      × ((ltb (narrativeEnd s p) (columnEnd s p) ≡ true) ↔ (c .form ≡ with-comma))
+  last-shown = last-ends s (thematicIndexEnd s p + 1) (c .narrative) (w .narrative .least-bytes) (narrative-lacks c w) (c .form)
+      (colon ∷ rest) (columnEnd s p) narrative-stands column-end
+
+  narrative-part : part s (span (thematicIndexEnd s p + 1) (narrativeEnd s p)) ≡ c .narrative
+  narrative-part =
+      let q : narrativeEnd s p - (thematicIndexEnd s p + 1) ≡ length (c .narrative) = omega (arith, last-shown .0) in
+      ap (λ (k : ℕ). take k (drop (thematicIndexEnd s p + 1) s)) q
+      ∙ stands-part s (thematicIndexEnd s p + 1) (c .narrative) (printedComma (c .form) ++ (colon ∷ rest)) narrative-stands
+
+  after-print : columnEnd s p + 1 ≡ p + length (printedColumn c)
+  after-print =
+      omega (
+        arith,
+        name-end,
+        count-end,
+        description-end,
+        value-table-end,
+        thematic-index-end,
+        column-end,
+        length-append (c .narrative) (printedComma (c .form)),
+        print-length c,
+      )
 
   count-shown : Numeral (c .count) → countOf s (nameEnd s p + 3) (countEnd s p) ≡ decimal 0 (c .count)
   unfolding countOf
@@ -166,7 +216,8 @@ module _ (s : List ℕ) (p : ℕ) (c : Column) (rest : List ℕ) (w : WellFormed
     value-table = field-part s (descriptionEnd s p + 1) comma (c .valueTable) from-thematic-index value-table-stands (value-table-lacks c w);
     thematic-index = field-part s (valueTableEnd s p + 1) comma (c .thematicIndex) from-narrative thematic-index-stands
         (thematic-index-lacks c w);
-    narrative = field-part s (thematicIndexEnd s p + 1) comma (c .narrative) (colon ∷ rest) narrative-stands (narrative-lacks c w);
+    narrative = narrative-part;
+    form = last-shown .1;
     after = after-print;
   }
 

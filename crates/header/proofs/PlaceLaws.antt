@@ -1,19 +1,21 @@
 -- One turn of the search for a byte, and where the fields of a definition can lie.
-use mathlib.Core.Path.{_≡_, refl, ap, _∙_}
+use mathlib.Core.Path.{_≡_, refl, sym, ap, _∙_}
 use mathlib.Core.Logic.{by-cases}
 use mathlib.Core.List.{List, [], _∷_}
-use Prim.Native.Nat.{ℕ, zero, suc, _+_, _≤_, _<_}
+use Prim.Native.Nat.{ℕ, zero, suc, pred, _+_, _-_, _≤_, _<_}
 use native.Mathlib.Omega.{arith}
 use native.Mathlib.Numerals.{add-one}
 use native.Mathlib.Decide.{decLt}
 use borrow.Author.Tests.{eq-eqb, ne-eqb, lt-ltb, le-ltb}
-use lib.Dec.{eqb}
+use lib.Dec.{eqb, ltb}
 use lib.ListN.{length, getD, drop, length-drop, drop-of-length-le}
 use lib.Seq.{drop-cons}
 use Rattle.laws.proofs.LowestLaws.{bool-cases}
-use Rattle.grammar.specs.Words.{semicolon, equals, comma, star}
+use Rattle.laws.proofs.TestLaws.{cond-same}
+use Rattle.grammar.specs.Words.{semicolon, colon, equals, comma, star}
 use Rattle.header.specs.declared.Definition.{Definition}
-use Rattle.header.specs.Places.{before, seek, countOf, span, nameEnd, countEnd, thematicIndexEnd, definition, firstPlace, placeAfter, column}
+use Rattle.header.specs.Places.{before, seek, countOf, span, nameEnd, countEnd, thematicIndexEnd, lastEnd, definition, firstPlace}
+use Rattle.header.specs.Places.{placeAfter, column}
 
 -- the first b stands in the list, or at its end
 before-le : (b : ℕ) (l : List ℕ) → before b l ≤ length l
@@ -45,6 +47,21 @@ pub seek-next : (s : List ℕ) (p b : ℕ) → p < length s → (getD s p 0 ≡ 
 seek-next s p b h e =
     rw (seek-at s p b (omega arith), seek-at s (p + 1) b (omega arith), drop-cons s p 0 h, ne-eqb (getD s p 0) b e, add-one p) (omega arith)
 
+-- where a last name ends, by the byte before its colon at e
+module _ (s : List ℕ) (e : ℕ) where
+  pub last-at-0 : e ≡ 0 → 0 ≡ lastEnd s e
+  last-at-0 z = rw z (sym (cond-same (eqb (getD s 0 0) comma) 0))
+
+  module _ (b : ℕ) (B : b ≡ getD s (e - 1) 0) where
+    same-place : e - 1 ≡ pred e
+    same-place = omega arith
+
+    pub last-at-comma : b ≡ comma → e - 1 ≡ lastEnd s e
+    last-at-comma h = rw (eq-eqb (getD s (pred e) 0) comma (ap (λ (k : ℕ). getD s k 0) (sym same-place) ∙ sym B ∙ h)) same-place
+
+    pub last-at-colon : (b ≡ comma → ⊥) → e ≡ lastEnd s e
+    last-at-colon h = rw (ne-eqb (getD s (pred e) 0) comma (λ z. h (B ∙ ap (λ (k : ℕ). getD s k 0) same-place ∙ z)))
+
 -- a name ends in the head, wherever its definition is read, and starts there
 pub name-within : (s : List ℕ) (p : ℕ) → definition s p .name .end ≤ length s
 unfolding definition
@@ -58,12 +75,12 @@ name-start s p = refl
 place-near : (s : List ℕ) (k : ℕ) → placeAfter s k ≤ length s + 2
 unfolding placeAfter firstPlace definition
 place-near s zero = let h = seek-le s (seek s (seek s 4 semicolon + 1) semicolon + 1) semicolon in omega arith
-place-near s (suc k) = let h = seek-le s (thematicIndexEnd s (placeAfter s k) + 1) comma in omega arith
+place-near s (suc k) = let h = seek-le s (thematicIndexEnd s (placeAfter s k) + 1) colon in omega arith
 
 -- what the code finds of a definition, one field after the other
-module _ (s : List ℕ) (p a b c d e f : ℕ) (A : a ≡ seek s p equals) (B : b ≡ seek s (a + 3) comma)
+module _ (s : List ℕ) (p a b c d e f g : ℕ) (A : a ≡ seek s p equals) (B : b ≡ seek s (a + 3) comma)
     (C : c ≡ seek s (b + 3) comma) (D : d ≡ seek s (c + 1) comma)
-    (E : e ≡ seek s (d + 1) comma) (F : f ≡ seek s (e + 1) comma) (kind mark count key : ℕ)
+    (E : e ≡ seek s (d + 1) comma) (F : f ≡ seek s (e + 1) colon) (G : g ≡ lastEnd s f) (kind mark count key : ℕ)
     (K : kind ≡ getD s (a + 1) 0) (M : mark ≡ getD s (a + 3) 0)
     (N : count ≡ countOf s (a + 3) b) (Y : key ≡ getD s (b + 1) 0) where
   pub defined :
@@ -76,8 +93,9 @@ module _ (s : List ℕ) (p a b c d e f : ℕ) (A : a ≡ seek s p equals) (B : b
         description = span (b + 3) c;
         value = span (c + 1) d;
         thematic = span (d + 1) e;
-        narrative = span (e + 1) f;
-        after = f + 2;
+        narrative = span (e + 1) g;
+        comma = ltb g f;
+        after = f + 1;
       }
       ≡ definition s p
   unfolding definition
@@ -87,7 +105,8 @@ module _ (s : List ℕ) (p a b c d e f : ℕ) (A : a ≡ seek s p equals) (B : b
       let c′ = C ∙ ap (after 3) b′ in
       let d′ = D ∙ ap (after 1) c′ in
       let e′ = E ∙ ap (after 1) d′ in
-      let f′ = F ∙ ap (after 1) e′ in
+      let f′ = F ∙ ap (λ (x : ℕ). seek s (x + 1) colon) e′ in
+      let g′ = G ∙ ap (lastEnd s) f′ in
       let n′ : count ≡ countOf s (nameEnd s p + 3) (countEnd s p) = N ∙ (λ t. countOf s (A t + 3) (b′ t)) in
       (λ t. record {
         name = span p (A t);
@@ -98,8 +117,9 @@ module _ (s : List ℕ) (p a b c d e f : ℕ) (A : a ≡ seek s p equals) (B : b
         description = span (b′ t + 3) (c′ t);
         value = span (c′ t + 1) (d′ t);
         thematic = span (d′ t + 1) (e′ t);
-        narrative = span (e′ t + 1) (f′ t);
-        after = f′ t + 2;
+        narrative = span (e′ t + 1) (g′ t);
+        comma = ltb (g′ t) (f′ t);
+        after = f′ t + 1;
       })
 
 -- ---- a loop over the columns that carries the place: `at` is the place after k definitions, d the definition read there

@@ -9,18 +9,18 @@ use native.Mathlib.Decide.{decLt}
 use native.Mathlib.Omega.{arith}
 use borrow.Author.Tests.{eq-eqb, ne-eqb, ltb-true}
 use lib.Dec.{eqb, ltb}
-use lib.ListN.{length, take, drop, length-take, length-drop}
+use lib.ListN.{length, getD, take, drop, length-take, length-drop}
 use lib.Seq.{take-take}
 use Rattle.laws.specs.Orbit.{iterate}
 use Rattle.laws.proofs.LowestLaws.{bool-cases, lowest-none, lowest-some}
 use Rattle.laws.proofs.PlaceLaws.{drop-take}
 use Rattle.refusal.specs.Order.{refusal}
 use Rattle.grammar.specs.Words as words
-use Rattle.grammar.specs.Words.{semicolon, printedMark, printedColumn, Reading, Reads}
+use Rattle.grammar.specs.Words.{semicolon, comma, printedMark, printedColumn, Reading, Reads}
 use Rattle.header.specs.declared.Span.{Span}
 use Rattle.header.specs.declared.Definition.{Definition}
 use Rattle.header.specs.declared.Step.the-variants.{Column, Done, Refused}
-use Rattle.header.specs.Places.{before, seek, part, definition, placeAfter, column}
+use Rattle.header.specs.Places.{before, seek, part, lastEnd, definition, placeAfter, column}
 use Rattle.header.specs.Judge.{headOf, textOf, textLength, columnCount, headerRefusal}
 use Rattle.header.specs.Steps.{startsAt, stepFrom, stepOf, placeOf, startOf}
 use Rattle.header.specs.Words.{columnAt, Shows, AcceptedHeader}
@@ -43,6 +43,9 @@ seek-within s p b =
     (λ t. rw t (omega (arith, ltb-true p (length s) t, before-within b (drop p s), length-drop p s)))
     (λ t. rw t (omega arith))
 
+last-within : (s : List ℕ) (e : ℕ) → e ≤ length s → lastEnd s e ≤ length s
+last-within s e h = let q : pred e ≤ length s = omega arith in bool-cases (eqb (getD s (pred e) 0) comma) (λ t. rw t q) (λ t. rw t h)
+
 part-of-head : (m : ℕ) (s : List ℕ) (x : Span) → x .end ≤ length (take m s) → part (take m s) x ≡ part s x
 part-of-head m s x h =
     let i : x .end - x .start ≤ m - x .start = omega (arith, length-take m s) in
@@ -63,7 +66,8 @@ shows-in-file m s p c w =
       description = sym (part-of-head m s _ (seek-within t _ _)) ∙ w .description;
       value-table = sym (part-of-head m s _ (seek-within t _ _)) ∙ w .value-table;
       thematic-index = sym (part-of-head m s _ (seek-within t _ _)) ∙ w .thematic-index;
-      narrative = sym (part-of-head m s _ (seek-within t _ _)) ∙ w .narrative;
+      narrative = sym (part-of-head m s _ (last-within t _ (seek-within t _ _))) ∙ w .narrative;
+      form = w .form;
       after = w .after;
     }
 

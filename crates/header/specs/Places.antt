@@ -5,7 +5,7 @@ use mathlib.Core.List.{List, [], _∷_}
 use Prim.Native.Nat.{ℕ, zero, suc, pred, _+_, _-_, _*_}
 use lib.Dec.{eqb, ltb}
 use lib.ListN.{length, getD, take, drop}
-use Rattle.grammar.specs.Words.{semicolon, comma, equals, star}
+use Rattle.grammar.specs.Words.{semicolon, colon, comma, equals, star}
 use Rattle.header.specs.declared.Span.{Span}
 use Rattle.header.specs.declared.Definition.{Definition}
 
@@ -51,13 +51,22 @@ valueTableEnd s p = seek s (descriptionEnd s p + 1) comma
 abbrev pub thematicIndexEnd : List ℕ → ℕ → ℕ
 thematicIndexEnd s p = seek s (valueTableEnd s p + 1) comma
 
+-- a column ends at its colon, whichever form it has
+abbrev pub columnEnd : List ℕ → ℕ → ℕ
+columnEnd s p = seek s (thematicIndexEnd s p + 1) colon
+
+-- the last name ends at the comma just before the colon at e, and where that comma is missing at the colon
+abbrev pub lastEnd : List ℕ → ℕ → ℕ
+lastEnd s e = cond (eqb (getD s (pred e) 0) comma) (pred e) e
+
 abbrev pub narrativeEnd : List ℕ → ℕ → ℕ
-narrativeEnd s p = seek s (thematicIndexEnd s p + 1) comma
+narrativeEnd s p = lastEnd s (columnEnd s p)
 
 abbrev pub span : ℕ → ℕ → Span
 span p e = record { start = p; end = e }
 
--- THE DEFINITION at the place p: where each field lies, the type, the count, the key, and the place after its `:`
+-- THE DEFINITION at the place p: where each field lies, the type, the count, the key, whether the last comma stands, and the place
+-- after its `:`
 unfoldable pub definition : List ℕ → ℕ → Definition
 definition s p =
     record {
@@ -70,7 +79,8 @@ definition s p =
       value = span (descriptionEnd s p + 1) (valueTableEnd s p);
       thematic = span (valueTableEnd s p + 1) (thematicIndexEnd s p);
       narrative = span (thematicIndexEnd s p + 1) (narrativeEnd s p);
-      after = narrativeEnd s p + 2;
+      comma = ltb (narrativeEnd s p) (columnEnd s p);
+      after = columnEnd s p + 1;
     }
 
 -- the first definition: past the third `;`, the first two fields holding none

@@ -1,7 +1,7 @@
 -- "A header is accepted exactly when it meets the grammar, its column rules and its limits, with one reading": the rules in the
 -- paper's words, over a reading of the text.
 use mathlib.Core.Path.{_≡_}
-use mathlib.Core.Logic.{_⊎_}
+use mathlib.Core.Logic.{_⊎_, _↔_}
 use mathlib.Core.Bool.{true, false}
 use mathlib.Core.List.{List, [], _∷_}
 use Prim.Native.Nat.{ℕ, _+_, _≤_, _<_}
@@ -22,7 +22,18 @@ use Rattle.header.specs.Judge.{idName, keyP}
 
 -- column k of a reading, from 1
 abbrev pub noColumn : words.Column
-noColumn = record { name = []; type = 0; count = []; key = 0; description = []; valueTable = []; thematicIndex = []; narrative = [] }
+noColumn =
+    record {
+      name = [];
+      type = 0;
+      count = [];
+      key = 0;
+      description = [];
+      valueTable = [];
+      thematicIndex = [];
+      narrative = [];
+      form = words.with-comma;
+    }
 
 abbrev pub columnAt : words.Reading → ℕ → words.Column
 columnAt h k = getD (noColumn ∷ h .columns) k noColumn
@@ -68,8 +79,8 @@ pub record AcceptedHeader (file : List ℕ) (h : words.Reading) : Type 0 where
   pub reads : words.Reads (take (number order file 0 4) (drop 4 file)) h
   pub rules : ColumnRules h
 
--- the definition d at the place p of s shows the column c: each field's part, the type, the key, the count, and the place just
--- past its print
+-- the definition d at the place p of s shows the column c: each field's part, the type, the key, the count, "which form stood there",
+-- and the place just past its print
 pub record Shows (s : List ℕ) (p : ℕ) (c : words.Column) (d : Definition) : Type 0 where
   pub name-at : d .name .start ≡ p
   pub name : part s (d .name) ≡ c .name
@@ -81,4 +92,5 @@ pub record Shows (s : List ℕ) (p : ℕ) (c : words.Column) (d : Definition) : 
   pub value-table : part s (d .value) ≡ c .valueTable
   pub thematic-index : part s (d .thematic) ≡ c .thematicIndex
   pub narrative : part s (d .narrative) ≡ c .narrative
+  pub form : (d .comma ≡ true) ↔ (c .form ≡ words.with-comma)
   pub after : d .after ≡ p + length (words.printedColumn c)

@@ -26,7 +26,8 @@ pub struct Span {
     pub end: usize,
 }
 
-// Where the fields of a column definition lie in the file, what type, count and key it has, and the place after it.
+// Where the fields of a column definition lie in the file, what type, count and key it has, whether the comma before its colon stands,
+// and the place after it.
 pub struct Definition {
     pub name: Span,
     pub kind: u8,
@@ -37,6 +38,7 @@ pub struct Definition {
     pub value: Span,
     pub thematic: Span,
     pub narrative: Span,
+    pub comma: bool,
     pub after: usize,
 }
 

@@ -4,7 +4,7 @@ use crate::Span;
 ghost use mathlib.Core.Path.{_≡_};
 ghost use Prim.Native.Nat.{_+_, _-_, _≤_};
 ghost use lib.ListN.{length, getD, take, drop};
-ghost use Rattle.header.specs.Places.{seek, mostDigits, decimal, countOf, definition, firstPlace};
+ghost use Rattle.header.specs.Places.{seek, mostDigits, decimal, countOf, lastEnd, definition, firstPlace};
 ghost use Rattle.header.specs.Serving.Stages.{mostHead};
 
 // "1 to 5 digits"
@@ -68,8 +68,24 @@ fn count_of(head: &[u8], p: usize, e: usize) -> u32
     number_from(head, p, e)
 }
 
+// Where the last name of a definition ends, whose colon is given: at the comma just before it, or where that is missing at the colon.
+fn last_end(head: &[u8], colon: usize) -> usize
+    ensures { λ r. ⌜ r ≡ lastEnd (now (head .entry)) colon ⌝ }
+{
+    if colon == 0 {
+        return 0;
+    }
+    let before = colon - 1;
+    if byte_at(head, before) == b',' {
+        before
+    } else {
+        colon
+    }
+}
+
 // The definition at p: each field ends at the next byte that separates. Between a name and a count stand `=`, the type and `,`;
-// between a count and a description `,`, the key and `,`; after the last name `,` and `:`.
+// between a count and a description `,`, the key and `,`; after the last name `,` and `:`, or `:` alone. The last name is therefore found
+// by its colon: the next comma may be one of the next definition.
 pub(crate) fn definition_at(head: &[u8], p: usize) -> Definition
     requires { ⌜ length (now head) ≤ mostHead ⌝ }
     ensures { λ r. ⌜ r ≡ definition (now (head .entry)) p ⌝ }
@@ -79,7 +95,8 @@ pub(crate) fn definition_at(head: &[u8], p: usize) -> Definition
     let description_end = seek_byte(head, count_end + 3, b',');
     let value_end = seek_byte(head, description_end + 1, b',');
     let thematic_end = seek_byte(head, value_end + 1, b',');
-    let narrative_end = seek_byte(head, thematic_end + 1, b',');
+    let colon = seek_byte(head, thematic_end + 1, b':');
+    let narrative_end = last_end(head, colon);
     let count = count_of(head, name_end + 3, count_end);
     Definition {
         name: Span {
@@ -106,7 +123,8 @@ pub(crate) fn definition_at(head: &[u8], p: usize) -> Definition
             start: thematic_end + 1,
             end: narrative_end,
         },
-        after: narrative_end + 2,
+        comma: narrative_end < colon,
+        after: colon + 1,
     }
 }
 

@@ -44,7 +44,10 @@ fn say_definition(file: &[u8], d: Definition) {
     say_part(file, d.thematic.start, d.thematic.end);
     say(b",");
     say_part(file, d.narrative.start, d.narrative.end);
-    say(b", after ");
+    if d.comma {
+        say(b",");
+    }
+    say(b": after ");
     say_number(d.after as u64);
 }
 

@@ -67,7 +67,7 @@ pub wrong-else : {P Q : Type 0} (x y : Bool) → (x ≡ true) ↔ P → (y ≡ f
 wrong-else true y f g = (λ e. inl (f .0 refl), λ h. refl)
 wrong-else false y f g = (λ e. inr (g .0 e), ⊎-elim (λ p. absurd (true≢false (sym (f .1 p)))) (g .1))
 
-pub cond-same : (x y : Bool) → cond x y y ≡ y
+pub cond-same : {A : Type 0} (x : Bool) (y : A) → cond x y y ≡ y
 cond-same true y = refl
 cond-same false y = refl
 

@@ -17,8 +17,11 @@ returns-4 c = simp (c .enum-told4 .given .1)
 returns-5 : tie.Need-returns-5
 returns-5 c = simp (c .enum-told5 .given .1)
 
+returns-6 : tie.Need-returns-6
+returns-6 c = simp (c .enum-told6 .given .1)
+
 pub columns-after-spec : {M : Type 1} → statement M
 columns-after-spec =
     tie.close
     (tie.spec (λ c. search needs) (λ c. search needs) (λ c. search needs) (λ c. search needs) (λ c. search needs)
-    (λ c. search needs) returns returns-2 returns-3 returns-4 returns-5)
+    (λ c. search needs) (λ c. search needs) returns returns-2 returns-3 returns-4 returns-5 returns-6)

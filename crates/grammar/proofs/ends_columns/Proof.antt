@@ -32,8 +32,12 @@ returns-7 : tie.Need-returns-7
 unfolding ends
 returns-7 c = simp (c .enum-told5 .given .1)
 
+returns-8 : tie.Need-returns-8
+unfolding ends
+returns-8 c = simp (c .enum-told6 .given .1)
+
 pub ends-columns-spec : {M : Type 1} → statement M
 ends-columns-spec =
     tie.close
     (tie.spec (λ c. search needs) (λ c. search needs) (λ c. search needs) (λ c. search needs) (λ c. search needs)
-    returns returns-2 returns-3 returns-4 returns-5 returns-6 returns-7)
+    (λ c. search needs) returns returns-2 returns-3 returns-4 returns-5 returns-6 returns-7 returns-8)

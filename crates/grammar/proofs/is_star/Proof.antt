@@ -28,8 +28,12 @@ returns-6 : tie.Need-returns-6
 unfolding stars
 returns-6 c = simp (c .enum-told5 .given .1)
 
+returns-7 : tie.Need-returns-7
+unfolding stars
+returns-7 c = simp (c .enum-told6 .given .1)
+
 pub is-star-spec : {M : Type 1} → statement M
 is-star-spec =
     tie.close
     (tie.spec (λ c. search needs) (λ c. search needs) (λ c. search needs) (λ c. search needs) (λ c. search needs)
-    returns returns-2 returns-3 returns-4 returns-5 returns-6)
+    (λ c. search needs) returns returns-2 returns-3 returns-4 returns-5 returns-6 returns-7)

@@ -5,7 +5,7 @@ use Rattle.grammar.proofs.past_column.Tie as tie
 
 returns : tie.Need-returns
 returns c =
-    let at-narrative = c .before in let at-thematic-index = at-narrative .before in
+    let at-thematic-index = c .before in
     let at-value-table = at-thematic-index .before in let at-description = at-value-table .before in
     let at-key = at-description .before in let at-count = at-key .before in let at-kind = at-count .before in
     let at-name = at-kind .before in let s = at-name .before .before .args .text .now in
@@ -15,9 +15,8 @@ returns c =
     (then s (at-key .past-plain3 .ensures)
     (then s (at-description .past-plain4 .ensures)
     (then s (at-value-table .past-plain5 .ensures)
-    (then s (at-thematic-index .past-plain6 .ensures)
-    (then s (at-narrative .past-plain7 .ensures) (c .past-plain8 .ensures))))))))
+    (then s (at-thematic-index .past-plain6 .ensures) (c .past-last .ensures)))))))
 
 pub past-column-spec : {M : Type 1} → statement M
 past-column-spec = tie.close (tie.spec (λ c κs. search needs) (λ c κs. search needs) (λ c κs. search needs) (λ c κs. search needs)
-    (λ c κs. search needs) (λ c κs. search needs) (λ c κs. search needs) (λ c κs. search needs) (λ c κs. search needs) returns)
+    (λ c κs. search needs) (λ c κs. search needs) (λ c κs. search needs) (λ c κs. search needs) returns)
