@@ -37,7 +37,7 @@ module _ (s : List ℕ) (p b : ℕ) where
   unfolding seek
   seek-end h = rw (le-ltb p (length s) h)
 
-  seek-le : seek s p b ≤ length s
+  pub seek-le : seek s p b ≤ length s
   seek-le =
       by-cases (decLt p (length s))
       (λ c. rw (seek-at (omega arith)) (omega (arith, before-le b (drop p s), length-drop p s)))
@@ -51,6 +51,9 @@ seek-next s p b h e =
 module _ (s : List ℕ) (e : ℕ) where
   pub last-at-0 : e ≡ 0 → 0 ≡ lastEnd s e
   last-at-0 z = rw z (sym (cond-same (eqb (getD s 0 0) comma) 0))
+
+  pub last-le : e ≤ length s → lastEnd s e ≤ length s
+  last-le h = let q : pred e ≤ length s = omega arith in bool-cases (eqb (getD s (pred e) 0) comma) (λ t. rw t q) (λ t. rw t h)
 
   module _ (b : ℕ) (B : b ≡ getD s (e - 1) 0) where
     same-place : e - 1 ≡ pred e

@@ -7,44 +7,31 @@ use mathlib.Core.List.{List, [], _∷_}
 use Prim.Native.Nat.{ℕ, zero, suc, pred, _+_, _-_, _≤_, _<_}
 use native.Mathlib.Decide.{decLt}
 use native.Mathlib.Omega.{arith}
-use borrow.Author.Tests.{eq-eqb, ne-eqb, ltb-true}
-use lib.Dec.{eqb, ltb}
-use lib.ListN.{length, getD, take, drop, length-take, length-drop}
+use borrow.Author.Tests.{eq-eqb, ne-eqb}
+use lib.Dec.{eqb}
+use lib.ListN.{length, take, drop, length-take}
 use lib.Seq.{take-take}
 use Rattle.laws.specs.Orbit.{iterate}
-use Rattle.laws.proofs.LowestLaws.{bool-cases, lowest-none, lowest-some}
+use Rattle.laws.proofs.LowestLaws.{lowest-none, lowest-some}
 use Rattle.laws.proofs.PlaceLaws.{drop-take}
 use Rattle.refusal.specs.Order.{refusal}
 use Rattle.grammar.specs.Words as words
-use Rattle.grammar.specs.Words.{semicolon, comma, printedMark, printedColumn, Reading, Reads}
+use Rattle.grammar.specs.Words.{semicolon, printedMark, printedColumn, Reading, Reads}
 use Rattle.header.specs.declared.Span.{Span}
 use Rattle.header.specs.declared.Definition.{Definition}
 use Rattle.header.specs.declared.Step.the-variants.{Column, Done, Refused}
-use Rattle.header.specs.Places.{before, seek, part, lastEnd, definition, placeAfter, column}
+use Rattle.header.specs.Places.{part, definition, placeAfter, column}
 use Rattle.header.specs.Judge.{headOf, textOf, textLength, columnCount, headerRefusal}
 use Rattle.header.specs.Steps.{startsAt, stepFrom, stepOf, placeOf, startOf}
 use Rattle.header.specs.Words.{columnAt, Shows, AcceptedHeader}
 use Rattle.header.specs.Refusals.{RefusedWith}
+use Rattle.header.proofs.PlaceLaws.{seek-le, last-le}
 use Rattle.header.proofs.ColumnsShown.{column-shown, first-place, last-stands, place-next, place-further}
 use Rattle.header.proofs.TestsInWords.{reads-text, column-count}
 use Rattle.header.proofs.AcceptedExactly.{accepted-text, accepted-exactly}
 use Rattle.header.proofs.RefusedExactly.{refused-exactly, refused-test}
 
 -- ---- what is shown in the head is shown in the file: a field ends inside the head
-
-before-within : (b : ℕ) (l : List ℕ) → before b l ≤ length l
-before-within b [] = omega arith
-before-within b (x ∷ l) = bool-cases (eqb x b) (λ t. rw t (omega arith)) (λ t. rw t (omega (arith, before-within b l)))
-
-seek-within : (s : List ℕ) (p b : ℕ) → seek s p b ≤ length s
-unfolding seek
-seek-within s p b =
-    bool-cases (ltb p (length s))
-    (λ t. rw t (omega (arith, ltb-true p (length s) t, before-within b (drop p s), length-drop p s)))
-    (λ t. rw t (omega arith))
-
-last-within : (s : List ℕ) (e : ℕ) → e ≤ length s → lastEnd s e ≤ length s
-last-within s e h = let q : pred e ≤ length s = omega arith in bool-cases (eqb (getD s (pred e) 0) comma) (λ t. rw t q) (λ t. rw t h)
 
 part-of-head : (m : ℕ) (s : List ℕ) (x : Span) → x .end ≤ length (take m s) → part (take m s) x ≡ part s x
 part-of-head m s x h =
@@ -58,15 +45,15 @@ shows-in-file m s p c w =
     let t = take m s in
     record {
       name-at = w .name-at;
-      name = sym (part-of-head m s _ (seek-within t _ _)) ∙ w .name;
+      name = sym (part-of-head m s _ (seek-le t _ _)) ∙ w .name;
       type = w .type;
       star = w .star;
       count = w .count;
       key = w .key;
-      description = sym (part-of-head m s _ (seek-within t _ _)) ∙ w .description;
-      value-table = sym (part-of-head m s _ (seek-within t _ _)) ∙ w .value-table;
-      thematic-index = sym (part-of-head m s _ (seek-within t _ _)) ∙ w .thematic-index;
-      narrative = sym (part-of-head m s _ (last-within t _ (seek-within t _ _))) ∙ w .narrative;
+      description = sym (part-of-head m s _ (seek-le t _ _)) ∙ w .description;
+      value-table = sym (part-of-head m s _ (seek-le t _ _)) ∙ w .value-table;
+      thematic-index = sym (part-of-head m s _ (seek-le t _ _)) ∙ w .thematic-index;
+      narrative = sym (part-of-head m s _ (last-le t _ (seek-le t _ _))) ∙ w .narrative;
       form = w .form;
       after = w .after;
     }
