@@ -206,12 +206,11 @@ static refusal header_of(const uint8_t *file, size_t n, ref_layout *l) {
         expect(&r, ',');
         some(&r, in_column, 0, 80);
         expect(&r, ',');
-        for (int i = 0; i < 2; i++) {
+        for (int i = 0; i < 3; i++) {
             some(&r, in_column, 1, 12);
+            if (i == 2 && r.at < r.end && file[r.at] == ':') break; /* the last comma may be missing */
             expect(&r, ',');
         }
-        some(&r, in_column, 1, 12);
-        if (!r.bad && r.at < r.end && file[r.at] == ',') r.at++; /* this comma may be missing */
         expect(&r, ':');
         columns++;
         if (columns <= MOST_COLUMNS) l->column[columns - 1] = c;

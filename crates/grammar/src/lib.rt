@@ -485,6 +485,19 @@ fn run_of_plain(text: &[u8], from: usize, most: usize) -> usize
     n
 }
 
+// The same of a field of one byte at most, without a loop: two fields of every column are of this kind.
+fn run_of_one(text: &[u8], from: usize) -> usize
+    requires { ⌜ from ≤ length (now text) ⌝ }
+    ensures { λ r. ⌜ Run (now (text .entry)) Class.Plain 1 from r ⌝ }
+{
+    if from < text.len() {
+        if is_allowed(Class::Plain, 0, text[from]) {
+            return 1;
+        }
+    }
+    0
+}
+
 // Whether the byte stands at the place.
 fn stands_at(text: &[u8], place: usize, byte: u8) -> bool
     ensures { λ r. ⌜ r ≡ stands (now (text .entry)) place byte ⌝ }
@@ -536,6 +549,19 @@ fn past_plain(text: &[u8], from: usize, field: Field) -> usize
     past_closer(text, from, n, rule.least, rule.closer)
 }
 
+// The same of a field of one byte at most.
+fn past_letter(text: &[u8], from: usize, field: Field) -> usize
+    requires { ⌜ (from ≤ length (now text)) × (rule field .holds ≡ Class.Plain) × (rule field .most ≡ 1) ⌝ }
+    ensures { λ r. ⌜ (0 < r → 0 < from) × Past (now (text .entry)) from r (spot field 0) (closed field) ⌝ }
+{
+    if from == 0 {
+        return 0;
+    }
+    let rule = rule_of(field);
+    let n = run_of_one(text, from);
+    past_closer(text, from, n, rule.least, rule.closer)
+}
+
 // The place past a count, a star or digits, and its closer; or 0.
 fn past_count(text: &[u8], from: usize) -> usize
     requires { ⌜ from ≤ length (now text) ⌝ }
@@ -561,14 +587,11 @@ fn past_last(text: &[u8], from: usize) -> usize
     }
     let rule = rule_of(Field::Narrative);
     let n = run_of_plain(text, from, rule.most);
-    if stands_at(text, from + n, b':') {
+    let end = past_closer(text, from, n, rule.least, rule.closer);
+    if end == 0 {
         return past_closer(text, from, n, rule.least, b':');
     }
-    past_plain(
-        text,
-        past_closer(text, from, n, rule.least, rule.closer),
-        Field::ColumnEnd,
-    )
+    past_closer(text, end, 0, 0, b':')
 }
 
 // The place past a column; or 0.
@@ -577,9 +600,9 @@ fn past_column(text: &[u8], from: usize) -> usize
     ensures { λ r. ⌜ (0 < r → 0 < from) × Past (now (text .entry)) from r (spot Field.Name 0) (λ cols. spot Field.Name 0 (cols + 1)) ⌝ }
 {
     let at = past_plain(text, from, Field::Name);
-    let at = past_plain(text, at, Field::Kind);
+    let at = past_letter(text, at, Field::Kind);
     let at = past_count(text, at);
-    let at = past_plain(text, at, Field::Key);
+    let at = past_letter(text, at, Field::Key);
     let at = past_plain(text, at, Field::Description);
     let at = past_plain(text, at, Field::ValueTable);
     let at = past_plain(text, at, Field::ThematicIndex);

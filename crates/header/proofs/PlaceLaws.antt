@@ -55,15 +55,14 @@ module _ (s : List ℕ) (e : ℕ) where
   pub last-le : e ≤ length s → lastEnd s e ≤ length s
   last-le h = let q : pred e ≤ length s = omega arith in bool-cases (eqb (getD s (pred e) 0) comma) (λ t. rw t q) (λ t. rw t h)
 
-  module _ (b : ℕ) (B : b ≡ getD s (e - 1) 0) where
-    same-place : e - 1 ≡ pred e
-    same-place = omega arith
+  same-place : e - 1 ≡ pred e
+  same-place = omega arith
 
-    pub last-at-comma : b ≡ comma → e - 1 ≡ lastEnd s e
-    last-at-comma h = rw (eq-eqb (getD s (pred e) 0) comma (ap (λ (k : ℕ). getD s k 0) (sym same-place) ∙ sym B ∙ h)) same-place
+  pub last-at-comma : getD s (e - 1) 0 ≡ comma → e - 1 ≡ lastEnd s e
+  last-at-comma h = rw (eq-eqb (getD s (pred e) 0) comma (ap (λ (k : ℕ). getD s k 0) (sym same-place) ∙ h)) same-place
 
-    pub last-at-colon : (b ≡ comma → ⊥) → e ≡ lastEnd s e
-    last-at-colon h = rw (ne-eqb (getD s (pred e) 0) comma (λ z. h (B ∙ ap (λ (k : ℕ). getD s k 0) same-place ∙ z)))
+  pub last-at-colon : (getD s (e - 1) 0 ≡ comma → ⊥) → e ≡ lastEnd s e
+  last-at-colon h = rw (ne-eqb (getD s (pred e) 0) comma (λ z. h (ap (λ (k : ℕ). getD s k 0) same-place ∙ z)))
 
 -- a name ends in the head, wherever its definition is read, and starts there
 pub name-within : (s : List ℕ) (p : ℕ) → definition s p .name .end ≤ length s
@@ -93,11 +92,11 @@ module _ (s : List ℕ) (p a b c d e f g : ℕ) (A : a ≡ seek s p equals) (B :
         star = eqb mark star;
         count = count;
         key = key;
+        comma = ltb g f;
         description = span (b + 3) c;
         value = span (c + 1) d;
         thematic = span (d + 1) e;
         narrative = span (e + 1) g;
-        comma = ltb g f;
         after = f + 1;
       }
       ≡ definition s p
@@ -117,11 +116,11 @@ module _ (s : List ℕ) (p a b c d e f g : ℕ) (A : a ≡ seek s p equals) (B :
         star = eqb ((M ∙ ap (λ (x : ℕ). getD s (x + 3) 0) A) t) star;
         count = n′ t;
         key = (Y ∙ ap (λ (x : ℕ). getD s (x + 1) 0) b′) t;
+        comma = ltb (g′ t) (f′ t);
         description = span (b′ t + 3) (c′ t);
         value = span (c′ t + 1) (d′ t);
         thematic = span (d′ t + 1) (e′ t);
         narrative = span (e′ t + 1) (g′ t);
-        comma = ltb (g′ t) (f′ t);
         after = f′ t + 1;
       })
 

@@ -75,11 +75,11 @@ definition s p =
       star = eqb (getD s (nameEnd s p + 3) 0) star;
       count = countOf s (nameEnd s p + 3) (countEnd s p);
       key = getD s (countEnd s p + 1) 0;
+      comma = ltb (narrativeEnd s p) (columnEnd s p);
       description = span (countEnd s p + 3) (descriptionEnd s p);
       value = span (descriptionEnd s p + 1) (valueTableEnd s p);
       thematic = span (valueTableEnd s p + 1) (thematicIndexEnd s p);
       narrative = span (thematicIndexEnd s p + 1) (narrativeEnd s p);
-      comma = ltb (narrativeEnd s p) (columnEnd s p);
       after = columnEnd s p + 1;
     }
 

@@ -34,11 +34,11 @@ pub struct Definition {
     pub star: bool,
     pub count: u32,
     pub key: u8,
+    pub comma: bool,
     pub description: Span,
     pub value: Span,
     pub thematic: Span,
     pub narrative: Span,
-    pub comma: bool,
     pub after: usize,
 }
 

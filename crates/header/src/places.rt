@@ -70,17 +70,14 @@ fn count_of(head: &[u8], p: usize, e: usize) -> u32
 
 // Where the last name of a definition ends, whose colon is given: at the comma just before it, or where that is missing at the colon.
 fn last_end(head: &[u8], colon: usize) -> usize
+    requires { ⌜ colon ≤ length (now head) ⌝ }
     ensures { λ r. ⌜ r ≡ lastEnd (now (head .entry)) colon ⌝ }
 {
     if colon == 0 {
         return 0;
     }
     let before = colon - 1;
-    if byte_at(head, before) == b',' {
-        before
-    } else {
-        colon
-    }
+    if head[before] == b',' { before } else { colon }
 }
 
 // The definition at p: each field ends at the next byte that separates. Between a name and a count stand `=`, the type and `,`;
@@ -107,6 +104,7 @@ pub(crate) fn definition_at(head: &[u8], p: usize) -> Definition
         star: byte_at(head, name_end + 3) == b'*',
         count: count,
         key: byte_at(head, count_end + 1),
+        comma: narrative_end < colon,
         description: Span {
             start: count_end + 3,
             end: description_end,
@@ -123,7 +121,6 @@ pub(crate) fn definition_at(head: &[u8], p: usize) -> Definition
             start: thematic_end + 1,
             end: narrative_end,
         },
-        comma: narrative_end < colon,
         after: colon + 1,
     }
 }
