@@ -202,20 +202,27 @@ static void longest_text(void) {
     end_header(&big);
 }
 
+/* the headers that are timed, by number: what it is, and how often to call for one time */
+#define SHAPES 4
+static int header_shape(int i, char what[80]) {
+    if (i == 0) edge_table(1, true);
+    else if (i < 3) many_columns(i == 1 ? 64 : 128);
+    else longest_text();
+    uint32_t number = vumbarete_header(big.file, big.size).number;
+    bool text = i == 0 || i == 3;
+    snprintf(what, 80, text ? "L = %zu, refused with %u" : "%zu columns, refused with %u", text ? big.start - 4 : big.columns, number);
+    return i == 0 ? 2000 : i < 3 ? 200 : 20;
+}
+
 static void headers(void) {
     printf("\nHeaders\n%-34s %12s %12s %7s\n", "", "ours ns", "C ns", "ratio");
-    for (int i = 0; i < 4; i++) {
-        if (i == 0) edge_table(1, true);
-        else if (i < 3) many_columns(i == 1 ? 64 : 128);
-        else longest_text();
-        int many = i == 0 ? 2000 : i < 3 ? 200 : 20;
+    for (int i = 0; i < SHAPES; i++) {
+        char what[80];
+        int many = header_shape(i, what);
         size_t sum = 0;
         BEST(50, for (int k = 0; k < many; k++) sum += vumbarete_header(big.file, big.size).number,
              for (int k = 0; k < many; k++) sum += ref_header(big.file, big.size).number, a, b)
         sink = sum;
-        char what[80];
-        uint32_t number = vumbarete_header(big.file, big.size).number;
-        snprintf(what, sizeof what, i == 0 || i == 3 ? "L = %zu, refused with %u" : "%zu columns, refused with %u", i == 0 || i == 3 ? big.start - 4 : big.columns, number);
         printf("%-34s %12.0f %12.0f %7.3f   ours %.0f per second\n", what, a / many * 1e9, b / many * 1e9, a / b, many / a);
     }
 }
@@ -267,6 +274,37 @@ static double seconds(header_call header, const uint8_t *file, size_t size, int 
     double end = now();
     sink = sum;
     return end - start;
+}
+
+/* The headers by two builds, each loaded at eight places of a page, the shortest of all: where the linker lays a loop moves its time, through
+ * the emulator by much where it lies on two pages. */
+#define PLACES 8
+
+static header_call loaded(const char *folder, const char *build, int place) {
+    char path[512];
+    snprintf(path, sizeof path, "%s/%s.%d.so", folder, build, place);
+    void *library = dlopen(path, RTLD_NOW | RTLD_LOCAL);
+    header_call call = library ? (header_call)dlsym(library, "vumbarete_header") : NULL;
+    if (!call) fprintf(stderr, "%s: %s\n", path, dlerror()), exit(1);
+    return call;
+}
+
+static void placed(const char *folder) {
+    header_call calls[2 * PLACES + 1];
+    for (int p = 0; p < PLACES; p++) calls[2 * p] = loaded(folder, "ours", p), calls[2 * p + 1] = loaded(folder, "before", p);
+    calls[2 * PLACES] = ref_header;
+    printf("\nHeaders, the shortest at eight places of a page\n%-34s %12s %12s %12s %7s %12s %12s\n", "", "ours ns", "before ns", "C ns", "ratio", "before to C", "before/ours");
+    for (int i = 0; i < SHAPES; i++) {
+        char what[80];
+        int many = header_shape(i, what) / 2;
+        double best[3] = {1e9, 1e9, 1e9};
+        for (int turn = 0; turn < 25; turn++)
+            for (int c = 0; c <= 2 * PLACES; c++) {
+                double t = seconds(calls[c], big.file, big.size, many) * 1e9 / many, *least = &best[c == 2 * PLACES ? 2 : c % 2];
+                if (t < *least) *least = t;
+            }
+        printf("%-34s %12.0f %12.0f %12.0f %7.3f %12.3f %12.3f\n", what, best[0], best[1], best[2], best[0] / best[2], best[1] / best[2], best[1] / best[0]);
+    }
 }
 
 /* Whole headers, and how much longer each takes than the same header whose search ends where it begins: that is the name check and what comes
@@ -370,16 +408,12 @@ static void beside_ogdi(const char *folder) {
 }
 #endif
 
-/* bench [before LIBRARY | ogdi FOLDER] */
+/* bench [before FOLDER | ogdi FOLDER]: before, where both builds stand as libraries at eight places */
 int main(int argc, char **argv) {
-    header_call before = NULL;
-    if (argc > 2 && !strcmp(argv[1], "before")) {
-        void *library = dlopen(argv[2], RTLD_NOW | RTLD_LOCAL);
-        if (library) before = (header_call)dlsym(library, "vumbarete_header");
-        if (!before) fprintf(stderr, "%s: %s\n", argv[2], dlerror()), exit(1);
-    }
+    bool before = argc > 2 && !strcmp(argv[1], "before");
     headers();
-    names(before);
+    if (before) placed(argv[2]);
+    names(before ? loaded(argv[2], "before", 0) : NULL);
     if (before) return 0;
     values();
     rows();

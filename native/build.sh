@@ -13,7 +13,8 @@ if [ "$(uname -m)" = x86_64 ]; then
         gcc -std=c11 -D_POSIX_C_SOURCE=199309L -O3 -Wall -Wextra -c native/reference.c -o "$out/reference.o"
         gcc -std=c11 -D_POSIX_C_SOURCE=199309L "$2" -Wall -Wextra "native/$1.c" "$out/reference.o" target/staticlib/libabi.a -o "$out/$1" ${3:-}
     }
-    share() { gcc -shared -o "$2" -Wl,--whole-archive "$1" -Wl,--no-whole-archive; } # ARCHIVE LIBRARY: to be loaded beside another
+    assemble() { gcc -x assembler -c - -o "$1"; }
+    share() { gcc -shared -o "$2" "$3" -Wl,--whole-archive "$1" -Wl,--no-whole-archive; }
     run_built() { name=$1; shift; "$out/$name" "$@"; }
 else
     need clang clang
@@ -28,6 +29,12 @@ else
             "$out/$1.o" "$out/reference.o" target/staticlib/libabi.a "$lib/libc.so.6" "$lib/libc_nonshared.a" "$lib/libgcc.a" \
             "$lib/crtendS.o" "$lib/crtn.o"
     }
-    share() { "$tools/bin/ld.lld" -shared -o "$2" --whole-archive "$1" --no-whole-archive "$lib/libc.so.6"; }
+    assemble() { clang --target=x86_64-linux-gnu -x assembler -c - -o "$1"; }
+    share() { "$tools/bin/ld.lld" -shared -o "$2" "$3" --whole-archive "$1" --no-whole-archive "$lib/libc.so.6"; }
     run_built() { name=$1; shift; "$tools/bin/qemu-x86_64" "$lib/ld-linux-x86-64.so.2" --library-path "$lib" "$out/$name" "$@"; }
 fi
+
+share_at() { # ARCHIVE LIBRARY BYTES: to be loaded beside another, its code so many bytes further into a page
+    printf '.text\n.fill %d, 1, 0x90\n.section .note.GNU-stack, "", @progbits\n' "$3" | assemble "$out/pad.o"
+    share "$1" "$2" "$out/pad.o"
+}

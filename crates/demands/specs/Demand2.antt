@@ -4,6 +4,8 @@
 -- meets that grammar, its column rules and its limits, with one reading. A triplet written and read back is the same triplet. A tile is
 -- accepted exactly when its sizes and owner space fit and every listed fact about its nodes, faces, edges and rings holds."
 --
+-- Document 02, No. 5: "This amends 01's header grammar; demand 2 reads 'exactly the amended grammar'."
+--
 -- One record for each thing that has a meaning; `Demand2`, at the end, has them of all bytes and numbers.
 use mathlib.Core.Path.{_≡_}
 use mathlib.Core.Logic.{_↔_, _⊎_}

@@ -3,10 +3,10 @@
 use mathlib.Core.Path.{_≡_, refl, sym, ap, subst, _∙_}
 use mathlib.Core.List.{List, [], _∷_, _++_, map, append-assoc}
 use mathlib.Core.Logic.{_↔_, by-cases}
-use Prim.Native.Nat.{ℕ, suc, _<_}
+use Prim.Native.Nat.{ℕ, _<_}
 use native.Mathlib.Omega.{arith}
 use native.Mathlib.Decide.{decLt}
-use lib.ListN.{length}
+use lib.ListN.{length-map}
 use Rattle.grammar.specs.Words.{semicolon, colon, comma, Form, with-comma, without-comma, Column, Reading, printedComma, columnThen, printedColumn}
 use Rattle.grammar.specs.Words.{printedMark, printedColumns, printed, WellFormedColumns, WellFormed, Reads}
 use Rattle.grammar.specs.Amended.{withComma, withCommas, ReadBefore, orOneMore, commasLacking, LeavesOut, at-end, same-byte, no-comma}
@@ -32,16 +32,12 @@ columns-with (c ∷ cs) w = (
   columns-with cs (w .1),
 )
 
-as-many : (cs : List Column) → length (map withComma cs) ≡ length cs
-as-many [] = refl
-as-many (c ∷ cs) = ap suc (as-many cs)
-
 formed-with : (h : Reading) → WellFormed h → WellFormed (withCommas h)
 formed-with h w = record {
   description = w .description;
   narrative = w .narrative;
   columns = columns-with (h .columns) (w .columns);
-  one-or-more = omega (arith, w .one-or-more, as-many (h .columns));
+  one-or-more = omega (arith, w .one-or-more, length-map (h .columns) withComma);
 }
 
 -- ---- which commas a print leaves out
