@@ -277,7 +277,7 @@ static double seconds(header_call header, const uint8_t *file, size_t size, int 
 }
 
 /* The headers by two builds, each loaded at eight places of a page, the shortest of all: where the linker lays a loop moves its time, through
- * the emulator by much where it lies on two pages. */
+ * the emulator by much. */
 #define PLACES 8
 
 static header_call loaded(const char *folder, const char *build, int place) {
