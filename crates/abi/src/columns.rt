@@ -80,16 +80,14 @@ fn plain_column(step: Step) -> PlainColumn
 }
 
 // Where the first column definition stands, at which a reader starts; 0 where the header is refused.
-#[unsafe(no_mangle)]
-pub extern "C" fn vumbarete_first_place(file: &[u8]) -> usize
+pub fn vumbarete_first_place(file: &[u8]) -> usize
     ensures { result ≡ start_of file.now }
 {
     header::first_place(file)
 }
 
 // One column, at a place.
-#[unsafe(no_mangle)]
-pub extern "C" fn vumbarete_column_step(file: &[u8], place: usize) -> PlainColumn
+pub fn vumbarete_column_step(file: &[u8], place: usize) -> PlainColumn
     ensures { result ≡ plain_column (step_of file.now place) }
 {
     plain_column(header::column_step(file, place))

@@ -1,6 +1,8 @@
 // The operations for callers that are not Rattle: slices and numbers in, answers as plain numbers. In every answer but those of
 // `vumbarete_find_column` and `vumbarete_first_place`, a number alone, number 0 says that nothing is refused; else number and place are
 // document 01's, and all other numbers of the answer are 0, save the table that a load's refusal speaks of.
+#![tactic(auto)]
+
 mod columns;
 mod loads;
 mod tables;
@@ -16,20 +18,26 @@ ghost use Rattle.tile.specs.Check.{verdict_of, marks_after};
 ghost use Rattle.tile.specs.Walk.{walk_of, sides_written};
 ghost use Rattle.abi.specs.Plain.{order_for, ids_for, plain_verdict, plain_steps, plain_height, plain_judgement, plain_triplet, plain_written};
 
+pub use columns::{vumbarete_column_step, vumbarete_first_place};
+pub use loads::vumbarete_load;
 use number::Order;
+pub use tables::{
+    vumbarete_find_column, vumbarete_header, vumbarete_judge_rows, vumbarete_open,
+    vumbarete_rectangle, vumbarete_row, vumbarete_value,
+};
 use tile::{Verdict, Walked};
 use triplet::{Ids, Triplet, Written};
 use wave::{Height, Judgement};
 
 #[repr(C)]
-#[derive(Drop)]
+#[derive(Clone, Copy)]
 pub struct PlainVerdict {
     pub number: u32,
     pub place: usize,
 }
 
 #[repr(C)]
-#[derive(Drop)]
+#[derive(Clone, Copy)]
 pub struct PlainSteps {
     pub number: u32,
     pub place: usize,
@@ -37,7 +45,7 @@ pub struct PlainSteps {
 }
 
 #[repr(C)]
-#[derive(Drop)]
+#[derive(Clone, Copy)]
 pub struct PlainHeight {
     pub number: u32,
     pub place: usize,
@@ -45,7 +53,7 @@ pub struct PlainHeight {
 }
 
 #[repr(C)]
-#[derive(Drop)]
+#[derive(Clone, Copy)]
 pub struct PlainJudgement {
     pub number: u32,
     pub place: usize,
@@ -53,7 +61,7 @@ pub struct PlainJudgement {
 }
 
 #[repr(C)]
-#[derive(Drop)]
+#[derive(Clone, Copy)]
 pub struct PlainTriplet {
     pub number: u32,
     pub place: usize,
@@ -64,7 +72,7 @@ pub struct PlainTriplet {
 }
 
 #[repr(C)]
-#[derive(Drop)]
+#[derive(Clone, Copy)]
 pub struct PlainWritten {
     pub number: u32,
     pub place: usize,
@@ -72,7 +80,7 @@ pub struct PlainWritten {
 }
 
 #[repr(C)]
-#[derive(Drop)]
+#[derive(Clone, Copy)]
 pub struct PlainLoaded {
     pub number: u32,
     pub place: usize,
@@ -84,7 +92,7 @@ pub struct PlainLoaded {
 }
 
 #[repr(C)]
-#[derive(Drop)]
+#[derive(Clone, Copy)]
 pub struct PlainHeader {
     pub number: u32,
     pub place: usize,
@@ -96,7 +104,7 @@ pub struct PlainHeader {
 }
 
 #[repr(C)]
-#[derive(Drop)]
+#[derive(Clone, Copy)]
 pub struct PlainColumn {
     pub number: u32,
     pub place: usize,
@@ -120,7 +128,7 @@ pub struct PlainColumn {
 }
 
 #[repr(C)]
-#[derive(Drop)]
+#[derive(Clone, Copy)]
 pub struct PlainTable {
     pub number: u32,
     pub place: usize,
@@ -133,7 +141,7 @@ pub struct PlainTable {
 }
 
 #[repr(C)]
-#[derive(Drop)]
+#[derive(Clone, Copy)]
 pub struct PlainRow {
     pub number: u32,
     pub place: usize,
@@ -142,7 +150,7 @@ pub struct PlainRow {
 }
 
 #[repr(C)]
-#[derive(Drop)]
+#[derive(Clone, Copy)]
 pub struct PlainValue {
     pub number: u32,
     pub place: usize,
@@ -158,7 +166,7 @@ pub struct PlainValue {
 }
 
 #[repr(C)]
-#[derive(Drop)]
+#[derive(Clone, Copy)]
 pub struct PlainRectangle {
     pub number: u32,
     pub place: usize,
@@ -300,16 +308,14 @@ fn plain_steps(w: Walked) -> PlainSteps
 // ---- wave heights
 
 // A wave height in whole thousandths.
-#[unsafe(no_mangle)]
-pub extern "C" fn vumbarete_height(text: &[u8]) -> PlainHeight
+pub fn vumbarete_height(text: &[u8]) -> PlainHeight
     ensures { result ≡ plain_height (height_of text.now) }
 {
     plain_height(wave::thousandths(text))
 }
 
 // Whether a measured height is not above the limit: 1 where it passes.
-#[unsafe(no_mangle)]
-pub extern "C" fn vumbarete_passes(measured: &[u8], limit: &[u8]) -> PlainJudgement
+pub fn vumbarete_passes(measured: &[u8], limit: &[u8]) -> PlainJudgement
     ensures { result ≡ plain_judgement (judgement_of measured.now limit.now) }
 {
     plain_judgement(wave::passes(measured, limit))
@@ -318,16 +324,14 @@ pub extern "C" fn vumbarete_passes(measured: &[u8], limit: &[u8]) -> PlainJudgem
 // ---- triplet ids
 
 // The triplet id that the bytes begin with, and how many bytes it has.
-#[unsafe(no_mangle)]
-pub extern "C" fn vumbarete_triplet(bytes: &[u8], most_first: bool) -> PlainTriplet
+pub fn vumbarete_triplet(bytes: &[u8], most_first: bool) -> PlainTriplet
     ensures { result ≡ plain_triplet (triplet_of (order_for most_first) bytes.now) }
 {
     plain_triplet(triplet::read(bytes, order_for(most_first)))
 }
 
 // Writes a triplet id into the row at a place, and changes no other byte.
-#[unsafe(no_mangle)]
-pub extern "C" fn vumbarete_write_triplet(
+pub fn vumbarete_write_triplet(
     row: &mut [u8],
     at: usize,
     id: u32,
@@ -349,8 +353,7 @@ pub extern "C" fn vumbarete_write_triplet(
 // ---- the tile
 
 // Checks a tile; the marks afterwards hold the ring row of each side, or zeros.
-#[unsafe(no_mangle)]
-pub extern "C" fn vumbarete_check(
+pub fn vumbarete_check(
     start_node: &[u32],
     end_node: &[u32],
     right_face: &[u32],
@@ -379,8 +382,7 @@ pub extern "C" fn vumbarete_check(
 }
 
 // Walks from a ring row and writes the sides of its cycle, start side first.
-#[unsafe(no_mangle)]
-pub extern "C" fn vumbarete_walk(
+pub fn vumbarete_walk(
     start_node: &[u32],
     end_node: &[u32],
     right_face: &[u32],

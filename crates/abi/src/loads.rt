@@ -54,8 +54,7 @@ fn plain_loaded(l: Loaded) -> PlainLoaded
 }
 
 // Four tables and their indexes to the ten columns of a tile.
-#[unsafe(no_mangle)]
-pub extern "C" fn vumbarete_load(
+pub fn vumbarete_load(
     edg: &[u8],
     edx: &[u8],
     fac: &[u8],

@@ -293,32 +293,28 @@ fn plain_rectangle(f: Found) -> PlainRectangle
 // ---- the operations
 
 // The header of a table file.
-#[unsafe(no_mangle)]
-pub extern "C" fn vumbarete_header(file: &[u8]) -> PlainHeader
+pub fn vumbarete_header(file: &[u8]) -> PlainHeader
     ensures { result ≡ plain_header (header_of file.now) }
 {
     plain_header(header::read_header(file))
 }
 
 // The column of a name in either case, from 1; 0 where there is none or the header is refused.
-#[unsafe(no_mangle)]
-pub extern "C" fn vumbarete_find_column(file: &[u8], name: &[u8]) -> usize
+pub fn vumbarete_find_column(file: &[u8], name: &[u8]) -> usize
     ensures { result ≡ column_of file.now name.now }
 {
     header::find_column(file, name)
 }
 
 // A table file opened with its index.
-#[unsafe(no_mangle)]
-pub extern "C" fn vumbarete_open(file: &[u8], index: &[u8]) -> PlainTable
+pub fn vumbarete_open(file: &[u8], index: &[u8]) -> PlainTable
     ensures { result ≡ plain_table (opened_of file.now index.now most_rows) }
 {
     plain_table(opening::open_table(file, index))
 }
 
 // Where row i of a table lies.
-#[unsafe(no_mangle)]
-pub extern "C" fn vumbarete_row(file: &[u8], index: &[u8], row: usize) -> PlainRow
+pub fn vumbarete_row(file: &[u8], index: &[u8], row: usize) -> PlainRow
     ensures { result ≡ plain_row (row_in file.now index.now row) }
 {
     let opened = opening::open_table(file, index);
@@ -333,8 +329,7 @@ pub extern "C" fn vumbarete_row(file: &[u8], index: &[u8], row: usize) -> PlainR
 }
 
 // A table file opened with its index, and every row judged: the lowest that is refused.
-#[unsafe(no_mangle)]
-pub extern "C" fn vumbarete_judge_rows(file: &[u8], index: &[u8]) -> PlainTable
+pub fn vumbarete_judge_rows(file: &[u8], index: &[u8]) -> PlainTable
     ensures { result ≡ rows_judged file.now index.now (opened_of file.now index.now most_rows) }
 {
     let opened = opening::open_table(file, index);
@@ -353,13 +348,7 @@ pub extern "C" fn vumbarete_judge_rows(file: &[u8], index: &[u8]) -> PlainTable
 }
 
 // The value of a column in row i of a table.
-#[unsafe(no_mangle)]
-pub extern "C" fn vumbarete_value(
-    file: &[u8],
-    index: &[u8],
-    row: usize,
-    column: usize,
-) -> PlainValue
+pub fn vumbarete_value(file: &[u8], index: &[u8], row: usize, column: usize) -> PlainValue
     ensures { result ≡ plain_value (value_in file.now index.now row column) }
 {
     let opened = opening::open_table(file, index);
@@ -374,13 +363,7 @@ pub extern "C" fn vumbarete_value(
 }
 
 // The rectangle of the coordinates in a column of row i of a table.
-#[unsafe(no_mangle)]
-pub extern "C" fn vumbarete_rectangle(
-    file: &[u8],
-    index: &[u8],
-    row: usize,
-    column: usize,
-) -> PlainRectangle
+pub fn vumbarete_rectangle(file: &[u8], index: &[u8], row: usize, column: usize) -> PlainRectangle
     ensures { result ≡ plain_rectangle (rectangle_in file.now index.now row column) }
 {
     let opened = opening::open_table(file, index);

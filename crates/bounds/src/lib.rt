@@ -1,6 +1,8 @@
 // The rectangle of an edge's coordinates given as bytes: the least and greatest x and y, found by comparison alone, the
 // earliest coordinate winning a tie. In f32 and in f64: the code of the two widths differs in the names and numbers of the
 // width alone, and the definitions and laws are stated over the width.
+#![tactic(auto)]
+
 ghost use Rattle.std.specs.Prelude.{◌≡◌, ◌+◌, ◌≤◌, ◌<◌, length};
 ghost use Rattle.std.specs.Float.{binary32, binary64};
 ghost use Rattle.std.specs.Float.Ieee.{lt};
@@ -11,7 +13,7 @@ use number::Order;
 use refusal::{NOT_FINITE, Refusal};
 
 // x y, or x y z.
-#[derive(Drop)]
+#[derive(Clone, Copy)]
 pub enum Parts {
     Two,
     Three,
@@ -35,7 +37,7 @@ const SIGN32: u32 = 2147483648;
 const INFINITE32: u32 = 2139095040;
 
 // The four bounds travel as one record.
-#[derive(Drop)]
+#[derive(Clone, Copy)]
 pub struct Rectangle32 {
     pub least_x: f32,
     pub least_y: f32,
@@ -43,14 +45,14 @@ pub struct Rectangle32 {
     pub greatest_y: f32,
 }
 
-#[derive(Drop)]
+#[derive(Clone, Copy)]
 pub enum Bounds32 {
     Within(Rectangle32),
     Refused(Refusal),
 }
 
 // A coordinate's x and y, or that one of them is not finite.
-#[derive(Drop)]
+#[derive(Clone, Copy)]
 enum Point32 {
     At(f32, f32),
     NotFinite,
@@ -156,7 +158,7 @@ const SIGN64: u64 = 9223372036854775808;
 const INFINITE64: u64 = 9218868437227405312;
 
 // The four bounds travel as one record.
-#[derive(Drop)]
+#[derive(Clone, Copy)]
 pub struct Rectangle64 {
     pub least_x: f64,
     pub least_y: f64,
@@ -164,14 +166,14 @@ pub struct Rectangle64 {
     pub greatest_y: f64,
 }
 
-#[derive(Drop)]
+#[derive(Clone, Copy)]
 pub enum Bounds64 {
     Within(Rectangle64),
     Refused(Refusal),
 }
 
 // A coordinate's x and y, or that one of them is not finite.
-#[derive(Drop)]
+#[derive(Clone, Copy)]
 enum Point64 {
     At(f64, f64),
     NotFinite,

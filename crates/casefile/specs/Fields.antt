@@ -1,5 +1,5 @@
 -- A field of a file of cases: two bytes of length, the least significant first, and so many bytes, cut at the file's end.
-use Rattle.std.specs.Prelude.{List, ℕ, zero, suc, ◌+◌, ◌-◌, min, length, take, drop}
+use Rattle.std.specs.Prelude.{◌≤◌, ◌≡◌, List, ℕ, zero, suc, ◌+◌, ◌-◌, min, length, take, drop}
 use Rattle.number.specs.declared.Order.TheVariants.{Least}
 use Rattle.number.specs.Bytes.{number}
 
@@ -19,3 +19,7 @@ field_at s at = take (end_of s at - start_of s at) (drop (start_of s at) s)
 abbrev pub place_of : List ℕ → ℕ → ℕ
 place_of s zero = 0
 place_of s (suc k) = end_of s (place_of s k)
+
+-- a number of bytes at the front of a buffer: no more than it has
+abbrev pub IsPrefixLen : ℕ → List ℕ → Type 0
+IsPrefixLen n s = (n ≤ length s) × (n ≡ length (take n s))

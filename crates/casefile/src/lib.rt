@@ -1,28 +1,49 @@
 // A file of test cases: read whole, and taken apart field by field. A field is two bytes of length, the least significant
 // first, and so many bytes; a field that runs past the file's end is cut there, so that any bytes are a file of cases. And what the
 // programs of cases say alike. What a program writes is no value that a contract can speak of: it is held to the file `stdout` beside it.
-ghost use Rattle.std.specs.Prelude.{◌≡◌, ◌+◌, ◌≤◌, min, length};
-ghost use Rattle.io.specs.Counts.{IsPrefixLen};
-ghost use Rattle.casefile.specs.Fields.{start_of, end_of, field_at, place_of};
+#![tactic(auto)]
 
-use libc::STDOUT_FILENO;
+ghost use Rattle.std.specs.Prelude.{◌≡◌, ◌+◌, ◌≤◌, min, length};
+ghost use Rattle.casefile.specs.Fields.{IsPrefixLen, start_of, end_of, field_at, place_of};
+
 use number::Order;
 use refusal::Refusal;
+use std::io::{Read, Write};
+use std::rt::Files;
+use std::{fs, io, str};
+
+// Room for the longest file of cases.
+pub const FILE_ROOM: usize = 65536;
 
 // The bytes of a field's length.
 const LENGTH_BYTES: usize = 2;
 
+// Reads an open file until the buffer is full, the file ends or a read fails, also one that a signal interrupts: how many bytes came.
+fn fill(file: &mut impl Read, buf: &mut [u8]) -> usize
+    ensures { result ≤ length buf.new }
+{
+    let mut done = 0;
+    while done < buf.len() {
+        let n = file.read(&mut buf[done..]).unwrap_or(0);
+        if n == 0 {
+            break;
+        }
+        done += n;
+    }
+    done
+}
+
 // Reads a file into the buffer and answers how many bytes there are: 0 where it cannot be read, and no more than fit.
-pub fn load(path: &[u8], buf: &mut [u8]) -> usize
+pub fn load(files: &impl Files, path: &[u8], buf: &mut [u8]) -> usize
     ensures { IsPrefixLen result buf.new }
 {
-    let fd = os::open_read(path);
-    if fd < 0 {
+    let Ok(name) = str::from_utf8(path) else {
         return 0;
-    }
-    let n = io::read_full(fd, buf);
-    libc::close(fd);
-    n
+    };
+    let Ok(mut file) = fs::open(files, name) else {
+        return 0;
+    };
+    fill(&mut file, buf)
 }
 
 // The place so many bytes further on, or the file's end where that comes first.
@@ -79,41 +100,40 @@ pub fn part(case: &[u8], k: usize) -> &[u8]
 
 // ---- sayings
 
-pub fn say(text: &[u8]) {
-    io::write_all(STDOUT_FILENO, text);
+pub fn say(out: &mut impl Write, text: &[u8]) -> io::Result<()> {
+    out.write_all(text)
 }
 
-pub fn say_number(n: u64) {
-    io::print_decimal(STDOUT_FILENO, n);
+pub fn say_number(out: &mut impl Write, n: u64) -> io::Result<()> {
+    write!(out, "{n}")
 }
 
-pub fn say_refusal(bad: Refusal) {
-    say(b"refused ");
-    say_number(bad.number as u64);
-    say(b" at ");
-    say_number(bad.place as u64);
+pub fn say_refusal(out: &mut impl Write, bad: Refusal) -> io::Result<()> {
+    say(out, b"refused ")?;
+    say_number(out, bad.number as u64)?;
+    say(out, b" at ")?;
+    say_number(out, bad.place as u64)
 }
 
 // A byte as two hexadecimal digits.
-fn say_byte(b: u8) {
-    io::print_hex(STDOUT_FILENO, b as u64, 2);
+fn say_byte(out: &mut impl Write, b: u8) -> io::Result<()> {
+    write!(out, "{b:02x}")
 }
 
-pub fn say_bytes(bytes: &[u8]) {
-    let mut i = 0;
-    while i < bytes.len() {
-        say_byte(bytes[i]);
-        i += 1;
+pub fn say_bytes(out: &mut impl Write, bytes: &[u8]) -> io::Result<()> {
+    for &b in bytes {
+        say_byte(out, b)?;
     }
+    Ok(())
 }
 
 // The bytes of a file from start to end; nothing where they are not there.
-pub fn say_part(file: &[u8], start: usize, end: usize) {
+pub fn say_part(out: &mut impl Write, file: &[u8], start: usize, end: usize) -> io::Result<()> {
     if file.len() < end {
-        return;
+        return Ok(());
     }
     if end < start {
-        return;
+        return Ok(());
     }
-    say(&file[start..end]);
+    say(out, &file[start..end])
 }

@@ -1,4 +1,6 @@
 // A directory's files loaded, sizes first, and the tile that they say checked; with the file that a refusal speaks of.
+#![tactic(auto)]
+
 pub mod files;
 
 ghost use Rattle.std.specs.Prelude.{◌≡◌, cond, ◌||◌, [], max, length, take};
@@ -17,7 +19,7 @@ use report::FileName;
 use tile::{Verdict, Walked};
 
 // How many bytes each file is said to have; any number above 65,536 stands for a larger file.
-#[derive(Drop)]
+#[derive(Clone, Copy)]
 pub struct Sizes {
     pub edg: usize,
     pub edx: usize,
@@ -28,20 +30,20 @@ pub struct Sizes {
 }
 
 // The first file that is at fault, if any.
-#[derive(Drop)]
+#[derive(Clone, Copy)]
 pub enum AtFault {
     Is(FileName),
     Nothing,
 }
 
 // A refusal, and the file that it speaks of.
-#[derive(Drop)]
+#[derive(Clone, Copy)]
 pub struct Named {
     pub file: FileName,
     pub refusal: Refusal,
 }
 
-#[derive(Drop)]
+#[derive(Clone, Copy)]
 pub enum Outcome {
     Accepted(Counts),
     Refused(Named),

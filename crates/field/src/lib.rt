@@ -1,10 +1,12 @@
 // Field types: each knows its letter, the width of its element in bytes, its null, and whether a star count is allowed.
+#![tactic(auto)]
+
 ghost use Rattle.std.specs.Prelude.{◌≡◌, ◌≤◌};
 ghost use Rattle.field.specs.Fields.{letter_of, width_of, widest, star_of, null_of, rule_of, type_of, is_integer, is_triplet, in_range, count_right};
 ghost use Rattle.field.specs.Nulls.{short_is_null, integer_is_null, float_is_null, double_is_null};
 
 // The value of a field type that stands for none.
-#[derive(Drop)]
+#[derive(Clone, Copy)]
 pub enum NullValue {
     Nothing,
     Number(i32),
@@ -12,7 +14,7 @@ pub enum NullValue {
 }
 
 // T: text.
-#[derive(Drop)]
+#[derive(Clone, Copy)]
 pub struct Text;
 
 impl Text {
@@ -26,7 +28,7 @@ impl Text {
 }
 
 // L: text in the alphabet Latin 1.
-#[derive(Drop)]
+#[derive(Clone, Copy)]
 pub struct Latin;
 
 impl Latin {
@@ -40,7 +42,7 @@ impl Latin {
 }
 
 // F: a float of four bytes.
-#[derive(Drop)]
+#[derive(Clone, Copy)]
 pub struct Float;
 
 impl Float {
@@ -66,7 +68,7 @@ impl Float {
 }
 
 // R: a float of eight bytes.
-#[derive(Drop)]
+#[derive(Clone, Copy)]
 pub struct Double;
 
 impl Double {
@@ -92,7 +94,7 @@ impl Double {
 }
 
 // S: an integer of two bytes.
-#[derive(Drop)]
+#[derive(Clone, Copy)]
 pub struct Short;
 
 impl Short {
@@ -115,7 +117,7 @@ impl Short {
 }
 
 // I: an integer of four bytes.
-#[derive(Drop)]
+#[derive(Clone, Copy)]
 pub struct Integer;
 
 impl Integer {
@@ -138,7 +140,7 @@ impl Integer {
 }
 
 // C: short coordinates of two parts.
-#[derive(Drop)]
+#[derive(Clone, Copy)]
 pub struct ShortPair;
 
 impl ShortPair {
@@ -152,7 +154,7 @@ impl ShortPair {
 }
 
 // Z: short coordinates of three parts.
-#[derive(Drop)]
+#[derive(Clone, Copy)]
 pub struct ShortTriple;
 
 impl ShortTriple {
@@ -166,7 +168,7 @@ impl ShortTriple {
 }
 
 // B: double coordinates of two parts.
-#[derive(Drop)]
+#[derive(Clone, Copy)]
 pub struct DoublePair;
 
 impl DoublePair {
@@ -180,7 +182,7 @@ impl DoublePair {
 }
 
 // Y: double coordinates of three parts.
-#[derive(Drop)]
+#[derive(Clone, Copy)]
 pub struct DoubleTriple;
 
 impl DoubleTriple {
@@ -194,7 +196,7 @@ impl DoubleTriple {
 }
 
 // D: a date.
-#[derive(Drop)]
+#[derive(Clone, Copy)]
 pub struct Date;
 
 impl Date {
@@ -208,7 +210,7 @@ impl Date {
 }
 
 // X: a null field, of no bytes.
-#[derive(Drop)]
+#[derive(Clone, Copy)]
 pub struct NullField;
 
 impl NullField {
@@ -222,7 +224,7 @@ impl NullField {
 }
 
 // K: a triplet id, which says its own length: it has no width of an element.
-#[derive(Drop)]
+#[derive(Clone, Copy)]
 pub struct Triplet;
 
 impl Triplet {
@@ -236,7 +238,7 @@ impl Triplet {
 }
 
 // The thirteen types.
-#[derive(Drop)]
+#[derive(Clone, Copy)]
 pub enum FieldType {
     Text,
     Latin,
@@ -254,7 +256,7 @@ pub enum FieldType {
 }
 
 // The type of a letter.
-#[derive(Drop)]
+#[derive(Clone, Copy)]
 pub enum Lookup {
     Is(FieldType),
     Unlisted,
@@ -275,7 +277,7 @@ fn in_range(count: u32) -> bool
 }
 
 // What a type knows.
-#[derive(Drop)]
+#[derive(Clone, Copy)]
 struct Rule {
     letter: u8,
     width: usize,

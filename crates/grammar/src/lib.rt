@@ -1,11 +1,13 @@
 // The grammar of a header text: a machine that reads it byte by byte, and a way past a text of the grammar field by field.
+#![tactic(auto)]
+
 ghost use Rattle.std.specs.Prelude.{◌≡◌, ◌+◌, ◌≤◌, ◌<◌, ◌^◌, length};
 ghost use Rattle.grammar.specs.Fields.{asks, rule, printable, letter, plain, digit, holds, allowed};
 ghost use Rattle.grammar.specs.Scan.{takes, closes, ends, stars, lacks_comma, columns_after, closed, special_move, past_move, move, finish, spot, scan_of};
 ghost use Rattle.grammar.specs.Serving.Passing.{stands, Run, Shut, Past};
 
 // The fields of the text in their order; of a column from Name to ColumnEnd.
-#[derive(Drop)]
+#[derive(Clone, Copy)]
 pub enum Field {
     OrderLetter,
     TableDescription,
@@ -24,7 +26,7 @@ pub enum Field {
 }
 
 // Which bytes a field holds.
-#[derive(Drop)]
+#[derive(Clone, Copy)]
 pub enum Class {
     Letters,
     NoSemicolon,
@@ -34,7 +36,7 @@ pub enum Class {
 
 // What is special of a field: at its start `;` may end the columns, or a star may stand for the count; after its bytes `:` may stand
 // without the comma; closing it makes a column whole; the text is whole.
-#[derive(Drop)]
+#[derive(Clone, Copy)]
 pub enum Special {
     Usual,
     ColumnsMayEnd,
@@ -44,7 +46,7 @@ pub enum Special {
     TextIsWhole,
 }
 
-#[derive(Drop)]
+#[derive(Clone, Copy)]
 pub struct Rule {
     pub least: usize,
     pub most: usize,
@@ -55,20 +57,20 @@ pub struct Rule {
 }
 
 // Where a reading stands: in a field after n of its bytes, and after so many whole columns.
-#[derive(Drop)]
+#[derive(Clone, Copy)]
 pub struct Spot {
     pub field: Field,
     pub n: usize,
     pub cols: usize,
 }
 
-#[derive(Drop)]
+#[derive(Clone, Copy)]
 pub enum Move {
     To(Spot),
     Stop,
 }
 
-#[derive(Drop)]
+#[derive(Clone, Copy)]
 pub enum Scan {
     Columns(usize),
     BadByte(usize),

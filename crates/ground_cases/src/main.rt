@@ -1,11 +1,15 @@
 // Runs the cases of data/cases over wave heights, triplet ids, numbers and field types, and prints a line for each: the case's
 // label and the whole answer. A case is a field of three fields: the label, whose first letter says what is asked, and two of
 // which it is asked.
+#![tactic(auto)]
+
 ghost use Rattle.std.specs.Prelude.{◌≤◌};
 
-use casefile::{say, say_bytes, say_number, say_refusal};
+use casefile::{FILE_ROOM, say, say_bytes, say_number, say_refusal};
 use field::{Double, FieldType, Float, Integer, Lookup, NullValue, Short};
 use number::{Order, OrderLetter};
+use std::io;
+use std::io::{BufWriter, Write};
 use triplet::{Ids, Triplet, Written};
 use wave::{Height, Judgement};
 
@@ -14,31 +18,31 @@ const ROW_BEFORE: u8 = 0xee;
 
 const MOST_ROW: usize = 24;
 
-fn say_yes(answer: bool) {
+fn say_yes(out: &mut impl Write, answer: bool) -> io::Result<()> {
     if answer {
-        say(b"yes");
+        say(out, b"yes")
     } else {
-        say(b"no");
+        say(out, b"no")
     }
 }
 
-fn say_also(answer: bool) {
-    say(b" ");
-    say_yes(answer);
+fn say_also(out: &mut impl Write, answer: bool) -> io::Result<()> {
+    say(out, b" ")?;
+    say_yes(out, answer)
 }
 
-fn height(text: &[u8]) {
+fn height(out: &mut impl Write, text: &[u8]) -> io::Result<()> {
     match wave::thousandths(text) {
-        Height::Thousandths(v) => say_number(v as u64),
-        Height::Refused(bad) => say_refusal(bad),
+        Height::Thousandths(v) => say_number(out, v as u64),
+        Height::Refused(bad) => say_refusal(out, bad),
     }
 }
 
-fn judgement(measured: &[u8], limit: &[u8]) {
+fn judgement(out: &mut impl Write, measured: &[u8], limit: &[u8]) -> io::Result<()> {
     match wave::passes(measured, limit) {
-        Judgement::Passes => say(b"passes"),
-        Judgement::TooHigh => say(b"too high"),
-        Judgement::Refused(bad) => say_refusal(bad),
+        Judgement::Passes => say(out, b"passes"),
+        Judgement::TooHigh => say(out, b"too high"),
+        Judgement::Refused(bad) => say_refusal(out, bad),
     }
 }
 
@@ -50,44 +54,49 @@ fn order_asked(ask: &[u8]) -> Order {
     }
 }
 
-fn triplet_read(bytes: &[u8], order: Order) {
+fn triplet_read(out: &mut impl Write, bytes: &[u8], order: Order) -> io::Result<()> {
     match triplet::read(bytes, order) {
         Triplet::Is(ids, taken) => {
-            say_number(ids.id as u64);
-            say(b" ");
-            say_number(ids.tile as u64);
-            say(b" ");
-            say_number(ids.other as u64);
-            say(b" in ");
-            say_number(taken as u64);
+            say_number(out, ids.id as u64)?;
+            say(out, b" ")?;
+            say_number(out, ids.tile as u64)?;
+            say(out, b" ")?;
+            say_number(out, ids.other as u64)?;
+            say(out, b" in ")?;
+            say_number(out, taken as u64)
         }
-        Triplet::Refused(bad) => say_refusal(bad),
+        Triplet::Refused(bad) => say_refusal(out, bad),
     }
 }
 
 // The question: order letter, place (8 bytes), id, tile and external id (4 bytes each).
-fn triplet_written(row: &mut [u8], ask: &[u8], order: Order) {
+fn triplet_written(
+    out: &mut impl Write,
+    row: &mut [u8],
+    ask: &[u8],
+    order: Order,
+) -> io::Result<()> {
     let at = number::read8(ask, 1, Order::Least) as usize;
     let id = number::read4(ask, 9, Order::Least);
     let tile = number::read4(ask, 13, Order::Least);
     let other = number::read4(ask, 17, Order::Least);
     let ids = Ids { id, tile, other };
     match triplet::write(row, at, ids, order) {
-        Written::Bytes(n) => say_number(n as u64),
-        Written::Refused(bad) => say_refusal(bad),
+        Written::Bytes(n) => say_number(out, n as u64)?,
+        Written::Refused(bad) => say_refusal(out, bad)?,
     }
-    say(b" row ");
-    say_bytes(row);
+    say(out, b" row ")?;
+    say_bytes(out, row)
 }
 
 // The question: order letter, width, place (8 bytes).
-fn number_read(bytes: &[u8], ask: &[u8], order: Order) {
+fn number_read(out: &mut impl Write, bytes: &[u8], ask: &[u8], order: Order) -> io::Result<()> {
     let at = number::read8(ask, 2, Order::Least) as usize;
     match number::read1(ask, 1, Order::Least) {
-        1 => say_number(number::read1(bytes, at, order) as u64),
-        2 => say_number(number::read2(bytes, at, order) as u64),
-        4 => say_number(number::read4(bytes, at, order) as u64),
-        _ => say_number(number::read8(bytes, at, order)),
+        1 => say_number(out, number::read1(bytes, at, order) as u64),
+        2 => say_number(out, number::read2(bytes, at, order) as u64),
+        4 => say_number(out, number::read4(bytes, at, order) as u64),
+        _ => say_number(out, number::read8(bytes, at, order)),
     }
 }
 
@@ -110,59 +119,64 @@ fn number_put(row: &mut [u8], ask: &[u8], order: Order) {
     number::write8(row, at, number::read8(ask, 10, Order::Least), order);
 }
 
-fn number_written(row: &mut [u8], ask: &[u8], order: Order) {
+fn number_written(
+    out: &mut impl Write,
+    row: &mut [u8],
+    ask: &[u8],
+    order: Order,
+) -> io::Result<()> {
     number_put(row, ask, order);
-    say(b"row ");
-    say_bytes(row);
+    say(out, b"row ")?;
+    say_bytes(out, row)
 }
 
-fn say_null(null: NullValue) {
+fn say_null(out: &mut impl Write, null: NullValue) -> io::Result<()> {
     match null {
-        NullValue::Nothing => say(b" null none"),
+        NullValue::Nothing => say(out, b" null none"),
         NullValue::Number(v) => if v == -32768 {
-            say(b" null -32768");
+            say(out, b" null -32768")
         } else if v == -2147483648 {
-            say(b" null -2147483648");
+            say(out, b" null -2147483648")
         } else {
-            say(b" null other");
+            say(out, b" null other")
         },
-        NullValue::NotANumber => say(b" null NaN"),
+        NullValue::NotANumber => say(out, b" null NaN"),
     }
 }
 
 // Width, star, null, and whether the counts `*`, 0, 1, 2, 65,535, 65,536 and the largest number are right.
-fn say_type(t: FieldType) {
-    say_number(t.width() as u64);
-    say_also(t.star());
-    say_null(t.null());
-    say(b" counts");
-    say_also(t.count_right(true, 0));
-    say_also(t.count_right(false, 0));
-    say_also(t.count_right(false, 1));
-    say_also(t.count_right(false, 2));
-    say_also(t.count_right(false, 65535));
-    say_also(t.count_right(false, 65536));
-    say_also(t.count_right(false, 4294967295));
-    say(b" I");
-    say_also(t.is_integer());
-    say(b" K");
-    say_also(t.is_triplet());
+fn say_type(out: &mut impl Write, t: FieldType) -> io::Result<()> {
+    say_number(out, t.width() as u64)?;
+    say_also(out, t.star())?;
+    say_null(out, t.null())?;
+    say(out, b" counts")?;
+    say_also(out, t.count_right(true, 0))?;
+    say_also(out, t.count_right(false, 0))?;
+    say_also(out, t.count_right(false, 1))?;
+    say_also(out, t.count_right(false, 2))?;
+    say_also(out, t.count_right(false, 65535))?;
+    say_also(out, t.count_right(false, 65536))?;
+    say_also(out, t.count_right(false, 4294967295))?;
+    say(out, b" I")?;
+    say_also(out, t.is_integer())?;
+    say(out, b" K")?;
+    say_also(out, t.is_triplet())
 }
 
-fn letter(b: u8) {
+fn letter(out: &mut impl Write, b: u8) -> io::Result<()> {
     match FieldType::of(b) {
-        Lookup::Is(t) => say_type(t),
-        Lookup::Unlisted => say(b"unlisted"),
+        Lookup::Is(t) => say_type(out, t),
+        Lookup::Unlisted => say(out, b"unlisted"),
     }
 }
 
 // Whether the bytes of a value, the least significant first, are the null of the type with this letter.
-fn null_value(bytes: &[u8], kind: u8) {
+fn null_value(out: &mut impl Write, bytes: &[u8], kind: u8) -> io::Result<()> {
     match kind {
-        Short::LETTER => say_yes(Short::is_null(number::read2(bytes, 0, Order::Least))),
-        Integer::LETTER => say_yes(Integer::is_null(number::read4(bytes, 0, Order::Least))),
-        Float::LETTER => say_yes(Float::is_null(number::read4(bytes, 0, Order::Least))),
-        _ => say_yes(Double::is_null(number::read8(bytes, 0, Order::Least))),
+        Short::LETTER => say_yes(out, Short::is_null(number::read2(bytes, 0, Order::Least))),
+        Integer::LETTER => say_yes(out, Integer::is_null(number::read4(bytes, 0, Order::Least))),
+        Float::LETTER => say_yes(out, Float::is_null(number::read4(bytes, 0, Order::Least))),
+        _ => say_yes(out, Double::is_null(number::read8(bytes, 0, Order::Least))),
     }
 }
 
@@ -174,42 +188,45 @@ fn lent(bytes: &[u8]) -> usize
     if n < MOST_ROW { n } else { MOST_ROW }
 }
 
-fn answer(kind: u8, a: &[u8], b: &[u8]) {
+fn answer(out: &mut impl Write, kind: u8, a: &[u8], b: &[u8]) -> io::Result<()> {
     let mut row = [ROW_BEFORE; MOST_ROW];
     let n = lent(a);
     let order = order_asked(b);
     match kind {
-        b'h' => height(a),
-        b'p' => judgement(a, b),
-        b'r' => triplet_read(a, order),
-        b'w' => triplet_written(&mut row[0..n], b, order),
-        b'n' => number_read(a, b, order),
-        b'm' => number_written(&mut row[0..n], b, order),
-        b'l' => letter(number::read1(a, 0, Order::Least)),
-        b'v' => null_value(a, number::read1(b, 0, Order::Least)),
-        _ => say(b"no such question"),
+        b'h' => height(out, a),
+        b'p' => judgement(out, a, b),
+        b'r' => triplet_read(out, a, order),
+        b'w' => triplet_written(out, &mut row[0..n], b, order),
+        b'n' => number_read(out, a, b, order),
+        b'm' => number_written(out, &mut row[0..n], b, order),
+        b'l' => letter(out, number::read1(a, 0, Order::Least)),
+        b'v' => null_value(out, a, number::read1(b, 0, Order::Least)),
+        _ => say(out, b"no such question"),
     }
 }
 
-fn run_case(case: &[u8]) {
+fn run_case(out: &mut impl Write, case: &[u8]) -> io::Result<()> {
     let label = casefile::part(case, 0);
-    say(label);
-    say(b": ");
+    say(out, label)?;
+    say(out, b": ")?;
     let kind = number::read1(label, 0, Order::Least);
-    answer(kind, casefile::part(case, 1), casefile::part(case, 2));
-    say(b"\n");
+    answer(out, kind, casefile::part(case, 1), casefile::part(case, 2))?;
+    say(out, b"\n")
 }
 
-fn run(file: &[u8]) {
+fn run(out: &mut impl Write, file: &[u8]) -> io::Result<()> {
     let mut at = 0;
     while at < file.len() {
-        run_case(casefile::field(file, at));
+        run_case(out, casefile::field(file, at))?;
         at = casefile::after(file, at);
     }
+    Ok(())
 }
 
-fn main() {
-    let mut buf = io::large_buffer();
-    let n = casefile::load(b"cases", &mut buf);
-    run(&buf[..n]);
+fn main(rt: HostRuntime) -> io::Result<()> {
+    let mut buf = [0u8; FILE_ROOM];
+    let n = casefile::load(&rt, b"cases", &mut buf);
+    let mut out = BufWriter::new(rt.alloc(), io::writer(&rt))?;
+    run(&mut out, &buf[..n])?;
+    out.flush()
 }

@@ -1,5 +1,7 @@
 // A table's header: judged, laid out for the rows, and stepped through column by column. The text is scanned once and the definitions
 // are walked once: what each rule needs of them is kept by that walk.
+#![tactic(auto)]
+
 mod judge;
 mod layouts;
 mod naming;
@@ -21,7 +23,7 @@ use number::Order;
 use refusal::Refusal;
 
 // A part of the file.
-#[derive(Drop)]
+#[derive(Clone, Copy)]
 pub struct Span {
     pub start: usize,
     pub end: usize,
@@ -29,7 +31,7 @@ pub struct Span {
 
 // Where the fields of a column definition lie in the file, what type, count and key it has, whether the comma before its colon stands,
 // and the place after it.
-#[derive(Drop)]
+#[derive(Clone, Copy)]
 pub struct Definition {
     pub name: Span,
     pub kind: u8,
@@ -44,7 +46,7 @@ pub struct Definition {
     pub after: usize,
 }
 
-#[derive(Drop)]
+#[derive(Clone, Copy)]
 pub enum Answer {
     Accepted,
     Refused(Refusal),
@@ -52,7 +54,7 @@ pub enum Answer {
 
 // What a row needs of a column: its type and count (0 for a star), and the fixed bytes of the columns before it: where it starts in a
 // row of fixed width. It has eight bytes, so that a layout of all columns, which travels by value, has one kilobyte.
-#[derive(Drop)]
+#[derive(Clone, Copy)]
 pub struct ColumnLayout {
     pub kind: FieldType,
     pub star: bool,
@@ -62,7 +64,7 @@ pub struct ColumnLayout {
 
 // What a row needs of the header: the byte order, where row 1 starts, the columns, which of them is `id`, and the width of every
 // row, or 0 where the rows have no one width.
-#[derive(Drop)]
+#[derive(Clone, Copy)]
 pub struct Layout {
     pub order: Order,
     pub start: u32,
@@ -74,20 +76,20 @@ pub struct Layout {
 
 // Where the names of the columns lie in the file, the first column's at 0; 0 and 0 past the last. A head ends by byte 32,771, so that
 // sixteen bits do.
-#[derive(Drop)]
+#[derive(Clone, Copy)]
 pub struct Names {
     pub starts: [u16; MOST_COLUMNS],
     pub ends: [u16; MOST_COLUMNS],
 }
 
-#[derive(Drop)]
+#[derive(Clone, Copy)]
 pub struct Header {
     pub answer: Answer,
     pub layout: Layout,
     pub names: Names,
 }
 
-#[derive(Drop)]
+#[derive(Clone, Copy)]
 pub enum Step {
     Column(Definition),
     Done,
@@ -97,7 +99,7 @@ pub enum Step {
 // What one pass over no more definitions than the limit keeps: the lowest column that has a wrong type, key or count; where there is
 // none, 0, and the names, the keys, the layouts and the width of every row, or 0; where the first definition starts, and the place
 // after the last.
-#[derive(Drop)]
+#[derive(Clone, Copy)]
 struct Kept {
     wrong: usize,
     names: Names,
@@ -110,7 +112,7 @@ struct Kept {
 
 // The refusal; or none and what an accepted header hands on: the byte order, where the text ends and row 1 starts, how many columns
 // there are, which of them is `id`, and what was kept of them.
-#[derive(Drop)]
+#[derive(Clone, Copy)]
 struct Judged {
     refusal: Refusal,
     order: Order,

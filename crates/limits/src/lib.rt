@@ -1,5 +1,7 @@
 // The limits of document 01 as the requests of document 02 amend them, each said once in code. `specs/Limits` says them once for the
 // definitions; a proof that needs both finds them equal by their values.
+#![tactic(auto)]
+
 ghost use Rattle.std.specs.Prelude.{◌≡◌, min};
 ghost use Rattle.limits.specs.Limits.{most_columns};
 

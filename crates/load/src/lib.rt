@@ -1,4 +1,6 @@
 // Four tables to the ten columns of a tile: opened, tested, every row judged; then, and only then, written.
+#![tactic(auto)]
+
 mod cells;
 mod fitting;
 
@@ -13,7 +15,7 @@ use header::{Answer, Names};
 use opening::Table;
 use refusal::Refusal;
 
-#[derive(Drop)]
+#[derive(Clone, Copy)]
 pub enum TableName {
     Edg,
     Fac,
@@ -22,13 +24,13 @@ pub enum TableName {
 }
 
 // A refusal, and the table that it speaks of.
-#[derive(Drop)]
+#[derive(Clone, Copy)]
 pub struct Finding {
     pub table: TableName,
     pub refusal: Refusal,
 }
 
-#[derive(Drop)]
+#[derive(Clone, Copy)]
 pub struct Counts {
     pub edges: usize,
     pub faces: usize,
@@ -36,13 +38,13 @@ pub struct Counts {
     pub nodes: usize,
 }
 
-#[derive(Drop)]
+#[derive(Clone, Copy)]
 pub enum Loaded {
     Tile(Counts),
     Refused(Finding),
 }
 
-#[derive(Drop)]
+#[derive(Clone, Copy)]
 pub struct Tables {
     pub edg: Table,
     pub fac: Table,
@@ -51,7 +53,7 @@ pub struct Tables {
 }
 
 // Where the names of the columns lie in each of the four tables.
-#[derive(Drop)]
+#[derive(Clone, Copy)]
 struct TableNames {
     edg: Names,
     fac: Names,
@@ -60,7 +62,7 @@ struct TableNames {
 }
 
 // The four tables with their names, and what their opening found.
-#[derive(Drop)]
+#[derive(Clone, Copy)]
 struct OpenedTables {
     finding: Finding,
     tables: Tables,
@@ -68,7 +70,7 @@ struct OpenedTables {
 }
 
 // What all tests found, with what the writing needs: the tables, and the numbers of the ten columns by their places.
-#[derive(Drop)]
+#[derive(Clone, Copy)]
 struct Judged {
     finding: Finding,
     tables: Tables,

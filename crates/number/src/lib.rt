@@ -1,17 +1,19 @@
 // Unsigned numbers of 1, 2, 4 and 8 bytes in either byte order, at a place of a slice. A number that does not lie wholly
 // inside the slice reads as 0, and writing one there changes nothing.
+#![tactic(auto)]
+
 ghost use Rattle.std.specs.Prelude.{◌≡◌, List, ◌∷◌, [], ℕ, ◌+◌, ◌-◌, ◌≤◌, length};
 ghost use Rattle.std.proofs.lemmas.List.Edits.{sets};
 ghost use Rattle.number.specs.Bytes.{order_of, least_first, digits, number, written};
 
-#[derive(Drop)]
+#[derive(Clone, Copy)]
 pub enum Order {
     Least,
     Most,
 }
 
 // What byte 4 of a file says.
-#[derive(Drop)]
+#[derive(Clone, Copy)]
 pub enum OrderLetter {
     Is(Order),
     Unlisted,
@@ -173,7 +175,7 @@ fn put8(s: &mut [u8], at: usize, a: u8, b: u8, c: u8, d: u8, e: u8, f: u8, g: u8
 }
 
 // The last four bytes of a number, the least significant first.
-#[derive(Drop)]
+#[derive(Clone, Copy)]
 struct FourBytes {
     a: u8,
     b: u8,

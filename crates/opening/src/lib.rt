@@ -1,4 +1,6 @@
 // Opening a table with its lent index: 8 at 0 for a needed index under 8 bytes, 15 for the rows, 7 or 8.
+#![tactic(auto)]
+
 ghost use Rattle.std.specs.Prelude.{◌≡◌, cond, false, min, ◌-◌, ◌<◌, ltb, length};
 ghost use Rattle.laws.specs.Lowest.{lowest};
 ghost use Rattle.header.specs.declared.Answer.TheVariants as answer;
@@ -14,14 +16,14 @@ use refusal::{OVER_LIMIT, Refusal, WRONG_BODY, WRONG_INDEX};
 
 // An opened table: what its header says of the rows, and how many there are. Whoever has one may lend it with any file: rows past
 // the millionth and columns past the limit are not there.
-#[derive(Drop)]
+#[derive(Clone, Copy)]
 pub struct Table {
     pub layout: Layout,
     pub rows: usize,
 }
 
 // The answer, the table, and where the names of its columns lie in the file (`header::column_among` finds one of them).
-#[derive(Drop)]
+#[derive(Clone, Copy)]
 pub struct Opened {
     pub answer: Answer,
     pub table: Table,

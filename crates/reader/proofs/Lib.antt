@@ -1,4 +1,1 @@
 pub mod ReaderInOrder
-pub mod Calls
-pub mod Held
-pub mod Lent

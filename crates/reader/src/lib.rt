@@ -1,5 +1,7 @@
 // A header reader: it holds the file and its place in it, and gives one column at each step. The work is done by covered functions on
 // the slice and the number; what takes, makes or moves a reader is thin, and proved by hand.
+#![tactic(auto)]
+
 ghost use Rattle.std.specs.Prelude.{◌≡◌};
 ghost use Rattle.header.specs.Steps.{place_of};
 ghost use Rattle.reader.specs.Moves.{reader_at, opened, gives, moved, moved_from};
@@ -7,14 +9,14 @@ ghost use Rattle.reader.specs.Moves.{reader_at, opened, gives, moved, moved_from
 use header::Step;
 
 // The file, and the place at which the next step looks. A place that anybody puts there has a meaning: what `column_step` says of it.
-#[derive(Drop)]
+#[derive(Clone, Copy)]
 pub struct Reader<'a> {
     pub file: &'a [u8],
     pub at: usize,
 }
 
 // What a step gave, and where the reader stands after it.
-#[derive(Drop)]
+#[derive(Clone, Copy)]
 pub struct Moved {
     pub step: Step,
     pub at: usize,

@@ -2,15 +2,19 @@
 // is held over two steps; what each of so many further steps gives, and where the reader stands after it; then the same of two steps
 // from a place that the case names. A case is a field of four fields: the label, the table file, the number of further steps
 // (2 bytes) and the place (8 bytes).
+#![tactic(auto)]
+
 ghost use Rattle.std.specs.Prelude.{◌≡◌};
 ghost use Rattle.reader_cases.specs.Trails.{trail_of};
 
-use casefile::{say, say_number, say_part, say_refusal};
+use casefile::{FILE_ROOM, say, say_number, say_part, say_refusal};
 use header::Step;
 use number::Order;
+use std::io;
+use std::io::{BufWriter, Write};
 
 // What two steps of one reader gave, and where it stands after them.
-#[derive(Drop)]
+#[derive(Clone, Copy)]
 struct Trail {
     first: Step,
     second: Step,
@@ -32,76 +36,78 @@ fn two_steps(file: &[u8]) -> Trail
 }
 
 // The name of the column that a step gave, the end, or the refusal.
-fn say_given(file: &[u8], step: Step) {
+fn say_given(out: &mut impl Write, file: &[u8], step: Step) -> io::Result<()> {
     match step {
-        Step::Column(d) => say_part(file, d.name.start, d.name.end),
-        Step::Done => say(b"done"),
-        Step::Refused(bad) => say_refusal(bad),
+        Step::Column(d) => say_part(out, file, d.name.start, d.name.end),
+        Step::Done => say(out, b"done"),
+        Step::Refused(bad) => say_refusal(out, bad),
     }
 }
 
 // Says a step of a reader at a place, and answers where the reader stands after it.
-fn say_step(file: &[u8], place: usize) -> usize {
+fn say_step(out: &mut impl Write, file: &[u8], place: usize) -> io::Result<usize> {
     let moved = reader::step_from(file, place);
     let step = moved.step;
-    say(b"  at ");
-    say_number(place as u64);
-    say(b" ");
-    say_given(file, step);
-    say(b", then at ");
-    say_number(moved.at as u64);
-    say(b"\n");
-    moved.at
+    say(out, b"  at ")?;
+    say_number(out, place as u64)?;
+    say(out, b" ")?;
+    say_given(out, file, step)?;
+    say(out, b", then at ")?;
+    say_number(out, moved.at as u64)?;
+    say(out, b"\n")?;
+    Ok(moved.at)
 }
 
 // Says two steps of one reader, and answers where it stands after them.
-fn say_held(file: &[u8]) -> usize {
+fn say_held(out: &mut impl Write, file: &[u8]) -> io::Result<usize> {
     let trail = two_steps(file);
     let first = trail.first;
     let second = trail.second;
-    say(b"  held: ");
-    say_given(file, first);
-    say(b", ");
-    say_given(file, second);
-    say(b", then at ");
-    say_number(trail.at as u64);
-    say(b"\n");
-    trail.at
+    say(out, b"  held: ")?;
+    say_given(out, file, first)?;
+    say(out, b", ")?;
+    say_given(out, file, second)?;
+    say(out, b", then at ")?;
+    say_number(out, trail.at as u64)?;
+    say(out, b"\n")?;
+    Ok(trail.at)
 }
 
 // So many steps from a place.
-fn say_steps(file: &[u8], first: usize, count: usize) {
+fn say_steps(out: &mut impl Write, file: &[u8], first: usize, count: usize) -> io::Result<()> {
     let mut place = first;
-    let mut i = 0;
-    while i < count {
-        place = say_step(file, place);
-        i += 1;
+    for _ in 0..count {
+        place = say_step(out, file, place)?;
     }
+    Ok(())
 }
 
-fn run_case(case: &[u8]) {
+fn run_case(out: &mut impl Write, case: &[u8]) -> io::Result<()> {
     let file = casefile::part(case, 1);
     let count = number::read2(casefile::part(case, 2), 0, Order::Least) as usize;
     let place = number::read8(casefile::part(case, 3), 0, Order::Least) as usize;
-    say(casefile::part(case, 0));
-    say(b": a new reader at ");
-    say_number(header::first_place(file) as u64);
-    say(b"\n");
-    let held = say_held(file);
-    say_steps(file, held, count);
-    say_steps(file, place, 2);
+    say(out, casefile::part(case, 0))?;
+    say(out, b": a new reader at ")?;
+    say_number(out, header::first_place(file) as u64)?;
+    say(out, b"\n")?;
+    let held = say_held(out, file)?;
+    say_steps(out, file, held, count)?;
+    say_steps(out, file, place, 2)
 }
 
-fn run(file: &[u8]) {
+fn run(out: &mut impl Write, file: &[u8]) -> io::Result<()> {
     let mut at = 0;
     while at < file.len() {
-        run_case(casefile::field(file, at));
+        run_case(out, casefile::field(file, at))?;
         at = casefile::after(file, at);
     }
+    Ok(())
 }
 
-fn main() {
-    let mut buf = io::large_buffer();
-    let n = casefile::load(b"cases", &mut buf);
-    run(&buf[..n]);
+fn main(rt: HostRuntime) -> io::Result<()> {
+    let mut buf = [0u8; FILE_ROOM];
+    let n = casefile::load(&rt, b"cases", &mut buf);
+    let mut out = BufWriter::new(rt.alloc(), io::writer(&rt))?;
+    run(&mut out, &buf[..n])?;
+    out.flush()
 }

@@ -1,4 +1,6 @@
 // The rectangle of an edge: the least and greatest x and y of the coordinates in a column of a row.
+#![tactic(auto)]
+
 ghost use Rattle.std.specs.Prelude.{◌≡◌, false};
 ghost use Rattle.bounds.specs.Bounds.{bounds32, bounds64};
 ghost use Rattle.refusal.specs.Order.{refusal as refused};
@@ -13,7 +15,7 @@ use opening::Table;
 use refusal::{NO_SUCH, Refusal};
 use table::Value;
 
-#[derive(Drop)]
+#[derive(Clone, Copy)]
 pub enum Found {
     Short(Rectangle32),
     Double(Rectangle64),

@@ -1,4 +1,6 @@
 // A refusal: one number and one place. Number 0 says that nothing is refused; no answer carries it to a caller as a refusal.
+#![tactic(auto)]
+
 ghost use Rattle.std.specs.Prelude.{◌≡◌};
 ghost use Rattle.refusal.specs.Order.{refusal, fine, located};
 
@@ -89,7 +91,7 @@ pub const NO_RING: u32 = 31;
 // "walk does not close"
 pub const NOT_CLOSED: u32 = 32;
 
-#[derive(Drop)]
+#[derive(Clone, Copy)]
 pub struct Refusal {
     pub number: u32,
     pub place: usize,

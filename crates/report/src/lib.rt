@@ -1,4 +1,6 @@
 // What the program writes: the bytes of each line.
+#![tactic(auto)]
+
 ghost use Rattle.std.specs.Prelude.{◌≡◌, [], ◌∷◌, ◌++◌, ◌+◌, ◌≤◌, ◌<◌, length};
 ghost use Rattle.std.proofs.lemmas.List.Edits.{sets};
 ghost use Rattle.report.specs.Text.{digit, most_digits, decimal};
@@ -10,7 +12,7 @@ use refusal::Refusal;
 // Room for every line, whatever its numbers: the longest has 115 bytes. A buffer that has less is left as it is, and no line is told.
 pub const LINE_ROOM: usize = 128;
 
-#[derive(Drop)]
+#[derive(Clone, Copy)]
 pub enum FileName {
     Edg,
     Edx,

@@ -1,4 +1,6 @@
 // The sides of a tile's edges, and the successor of a side.
+#![tactic(auto)]
+
 ghost use Rattle.std.specs.Prelude.{◌≡◌, ◌<◌};
 ghost use Rattle.laws.specs.Orbit.{entry};
 ghost use Rattle.side.specs.Edges.{edges, outside};
@@ -7,7 +9,7 @@ ghost use Rattle.side.specs.Successor.{leaving, leaving_edge, successor};
 use refusal::{EDGE_OUT_OF_RANGE, FACE_DIFFERS, LOOP_OF_ONE_FACE, NOT_TOUCHING};
 
 // The next side on a walk, or document 01's number for what is wrong at the side.
-#[derive(Drop)]
+#[derive(Clone, Copy)]
 pub enum Successor {
     Side(usize),
     Wrong(u32),

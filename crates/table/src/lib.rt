@@ -1,4 +1,6 @@
 // Opened tables: rows found and judged, values handed out.
+#![tactic(auto)]
+
 pub mod rows;
 
 ghost use Rattle.std.specs.Prelude.{◌≡◌, false, min, ◌+◌, ◌-◌, ◌*◌, ◌≤◌, ◌<◌, length, take, drop};
@@ -22,7 +24,7 @@ use refusal::{BAD_TRIPLET, NO_SUCH, Refusal, WRONG_ID, WRONG_ROW};
 use triplet::{Ids, Triplet};
 
 // Where a field ends; or the row is too short for it (10); or it is a bad triplet, and where (11).
-#[derive(Drop)]
+#[derive(Clone, Copy)]
 pub enum Reach {
     At(usize),
     Short,
@@ -30,20 +32,20 @@ pub enum Reach {
 }
 
 // A part of a file: where it starts, and how many bytes it has.
-#[derive(Drop)]
+#[derive(Clone, Copy)]
 struct Extent {
     start: usize,
     bytes: usize,
 }
 
-#[derive(Drop)]
+#[derive(Clone, Copy)]
 pub enum Row {
     Between(usize, usize),
     Refused(Refusal),
 }
 
 // A value by its type. Text, a date and coordinates are a part of the caller's file: where it starts and how many bytes it has.
-#[derive(Drop)]
+#[derive(Clone, Copy)]
 pub enum Value {
     Short(i16),
     ShortNull,

@@ -1,4 +1,6 @@
 // The number that a tile takes from an I or K field of a row.
+#![tactic(auto)]
+
 ghost use Rattle.std.specs.Prelude.{◌≡◌, ◌-◌, take, drop};
 ghost use Rattle.taken.specs.Numbers.{natural, internal_id, number_by};
 

@@ -1,5 +1,7 @@
 // What the program writes of a directory, as bytes in a lent array: document 01's lines for the tile that its files say, or the refusal with
 // its file, number and place. The columns, the owner marks and the side list are its own, so that nothing else is left changed.
+#![tactic(auto)]
+
 ghost use Rattle.std.specs.Prelude.{◌≡◌, ◌+◌, ◌*◌, ◌≤◌, length};
 ghost use Rattle.std.proofs.lemmas.List.Edits.{sets};
 ghost use Rattle.limits.specs.Limits.{program_rows, program_sides};

@@ -1,4 +1,6 @@
 // A tile checked and walked.
+#![tactic(auto)]
+
 mod columns;
 mod owners;
 mod paths;
@@ -17,13 +19,13 @@ ghost use Rattle.tile.specs.Walk.{walk_of, sides_written};
 
 use refusal::{MANY_BEFORE, NO_SUCH, OVER_LIMIT, Refusal, TOO_SHORT, WRONG_START};
 
-#[derive(Drop)]
+#[derive(Clone, Copy)]
 pub enum Verdict {
     Accepted,
     Refused(Refusal),
 }
 
-#[derive(Drop)]
+#[derive(Clone, Copy)]
 pub enum Walked {
     Steps(usize),
     Refused(Refusal),

@@ -70,8 +70,8 @@ fn bad_start(
     fac_id: &[u32],
     start_edge: &[u32],
 ) -> usize
-    ensures* { λ r. ⌜ r ≡ lowest (λ (r : ℕ). start_missing edges right_face.now left_face.now r (entry
-        fac_id.now r) (entry start_edge.now r)) (length fac_id.now) ⌝ }
+    ensures { result ≡ lowest (λ (r : ℕ). start_missing edges right_face.now left_face.now r (entry
+        fac_id.now r) (entry start_edge.now r)) (length fac_id.now) }
 {
     let mut i: usize = 0;
     while i < fac_id.len() {

@@ -2,10 +2,14 @@
 // before and after; then a line for each walk that it asks, with the answer and the output afterwards. A case is a field of two
 // fields: the label, and numbers of four bytes. The numbers begin with the start and the length of twelve columns among them:
 // the ten of the tile, the length of the owner marks to lend, and for each walk its ring row and the length of the output.
+#![tactic(auto)]
+
 ghost use Rattle.std.specs.Prelude.{◌≤◌};
 
-use casefile::{say, say_number, say_refusal};
+use casefile::{FILE_ROOM, say, say_number, say_refusal};
 use number::Order;
+use std::io;
+use std::io::{BufWriter, Write};
 use tile::{Verdict, Walked};
 
 // What marks and outputs hold before, and the most of them that a case has lent.
@@ -41,17 +45,16 @@ const SPACE: usize = 10;
 
 const WALKS: usize = 11;
 
-fn say_next(n: u32) {
-    say(b" ");
-    say_number(n as u64);
+fn say_next(out: &mut impl Write, n: u32) -> io::Result<()> {
+    say(out, b" ")?;
+    say_number(out, n as u64)
 }
 
-fn say_numbers(numbers: &[u32]) {
-    let mut i = 0;
-    while i < numbers.len() {
-        say_next(numbers[i]);
-        i += 1;
+fn say_numbers(out: &mut impl Write, numbers: &[u32]) -> io::Result<()> {
+    for &n in numbers {
+        say_next(out, n)?;
     }
+    Ok(())
 }
 
 fn wide(n: u32) -> usize {
@@ -90,10 +93,10 @@ fn lent(asked: usize) -> usize
     if asked < MOST_LENT { asked } else { MOST_LENT }
 }
 
-fn check(t: &[u32], marks: &mut [u32]) {
-    say(b"marks");
-    say_numbers(marks);
-    say(b", ");
+fn check(out: &mut impl Write, t: &[u32], marks: &mut [u32]) -> io::Result<()> {
+    say(out, b"marks")?;
+    say_numbers(out, marks)?;
+    say(out, b", ")?;
     match tile::check(
         column(t, START_NODE),
         column(t, END_NODE),
@@ -107,20 +110,20 @@ fn check(t: &[u32], marks: &mut [u32]) {
         column(t, FIRST_EDGE),
         marks,
     ) {
-        Verdict::Accepted => say(b"accepted"),
-        Verdict::Refused(bad) => say_refusal(bad),
+        Verdict::Accepted => say(out, b"accepted")?,
+        Verdict::Refused(bad) => say_refusal(out, bad)?,
     }
-    say(b", marks");
-    say_numbers(marks);
-    say(b"\n");
+    say(out, b", marks")?;
+    say_numbers(out, marks)?;
+    say(out, b"\n")
 }
 
-fn walk(t: &[u32], row: usize, out: &mut [u32]) {
-    say(b"  ring ");
-    say_number(row as u64);
-    say(b" into");
-    say_numbers(out);
-    say(b": ");
+fn walk(out: &mut impl Write, t: &[u32], row: usize, steps: &mut [u32]) -> io::Result<()> {
+    say(out, b"  ring ")?;
+    say_number(out, row as u64)?;
+    say(out, b" into")?;
+    say_numbers(out, steps)?;
+    say(out, b": ")?;
     match tile::walk(
         column(t, START_NODE),
         column(t, END_NODE),
@@ -133,71 +136,71 @@ fn walk(t: &[u32], row: usize, out: &mut [u32]) {
         column(t, START_EDGE),
         column(t, FIRST_EDGE),
         row,
-        out,
+        steps,
     ) {
         Walked::Steps(n) => {
-            say_number(n as u64);
-            say(b" steps");
+            say_number(out, n as u64)?;
+            say(out, b" steps")?;
         }
-        Walked::Refused(bad) => say_refusal(bad),
+        Walked::Refused(bad) => say_refusal(out, bad)?,
     }
-    say(b", written");
-    say_numbers(out);
-    say(b"\n");
+    say(out, b", written")?;
+    say_numbers(out, steps)?;
+    say(out, b"\n")
 }
 
 // One walk, over an output of its own.
-fn walk_into(t: &[u32], row: usize, room: usize) {
-    let mut out = [BEFORE; MOST_LENT];
+fn walk_into(out: &mut impl Write, t: &[u32], row: usize, room: usize) -> io::Result<()> {
+    let mut steps = [BEFORE; MOST_LENT];
     let n = lent(room);
-    walk(t, row, &mut out[0..n]);
+    walk(out, t, row, &mut steps[0..n])
 }
 
 // The walks of a case: a ring row and the length of the output in turn.
-fn walk_all(t: &[u32], walks: &[u32]) {
-    let mut i = 0;
-    while i + 1 < walks.len() {
-        walk_into(t, entry(walks, i), entry(walks, i + 1));
-        i += 2;
+fn walk_all(out: &mut impl Write, t: &[u32], walks: &[u32]) -> io::Result<()> {
+    for asked in walks.chunks_exact(2) {
+        walk_into(out, t, entry(asked, 0), entry(asked, 1))?;
     }
+    Ok(())
 }
 
 // A tile: checked, then walked.
-fn run_tile(numbers: &[u32; 256]) {
+fn run_tile(out: &mut impl Write, numbers: &[u32; 256]) -> io::Result<()> {
     let t: &[u32] = numbers;
     let mut marks = [BEFORE; MOST_LENT];
     let space = lent(entry(column(t, SPACE), 0));
-    check(t, &mut marks[0..space]);
-    walk_all(t, column(t, WALKS));
+    check(out, t, &mut marks[0..space])?;
+    walk_all(out, t, column(t, WALKS))
 }
 
 // The numbers that the bytes say; 0 past their end.
 fn decode(bytes: &[u8], numbers: &mut [u32; 256]) {
-    let mut i = 0;
-    while i < MOST_NUMBERS {
+    for i in 0..MOST_NUMBERS {
         numbers[i] = number::read4(bytes, 4 * i, Order::Least);
-        i += 1;
     }
 }
 
-fn run_case(case: &[u8]) {
+fn run_case(out: &mut impl Write, case: &[u8]) -> io::Result<()> {
     let mut numbers = [0u32; MOST_NUMBERS];
-    say(casefile::part(case, 0));
-    say(b": ");
+    say(out, casefile::part(case, 0))?;
+    say(out, b": ")?;
     decode(casefile::part(case, 1), &mut numbers);
-    run_tile(&numbers);
+    run_tile(out, &numbers)
 }
 
-fn run(file: &[u8]) {
+fn run(out: &mut impl Write, file: &[u8]) -> io::Result<()> {
     let mut at = 0;
     while at < file.len() {
-        run_case(casefile::field(file, at));
+        run_case(out, casefile::field(file, at))?;
         at = casefile::after(file, at);
     }
+    Ok(())
 }
 
-fn main() {
-    let mut buf = io::large_buffer();
-    let n = casefile::load(b"cases", &mut buf);
-    run(&buf[..n]);
+fn main(rt: HostRuntime) -> io::Result<()> {
+    let mut buf = [0u8; FILE_ROOM];
+    let n = casefile::load(&rt, b"cases", &mut buf);
+    let mut out = BufWriter::new(rt.alloc(), io::writer(&rt))?;
+    run(&mut out, &buf[..n])?;
+    out.flush()
 }

@@ -1,18 +1,22 @@
 // Reads the tile of the directory that it is run in, and writes what document 01 says of it.
+#![tactic(auto)]
+
 ghost use Rattle.std.specs.Prelude.{◌≤◌, ◌+◌, ◌-◌, length};
 ghost use Rattle.tilecheck.specs.Reading.{Within};
 
 use directory::Sizes;
-use libc::{EINTR, STDOUT_FILENO};
 use limits::MOST_BYTES;
 use report::FileName;
+use std::io::{ErrorKind, Read, Write};
+use std::rt::Files;
+use std::{fs, io, str};
 use teller::TEXT_SPACE;
 
 // How many interrupted reads of a file are tried again.
 const MOST_TRIES: usize = 100;
 
 // What a read gives: so many bytes, none at the file's end; or a signal came before the first; or it failed.
-#[derive(Drop)]
+#[derive(Clone, Copy)]
 enum Part {
     Bytes(usize),
     Interrupted,
@@ -20,29 +24,26 @@ enum Part {
 }
 
 // One read of a file, to the bytes of the buffer from a place on.
-fn read_part(fd: i32, buf: &mut [u8], at: usize) -> Part
+fn read_part(file: &mut impl Read, buf: &mut [u8], at: usize) -> Part
     requires { at ≤ length buf.old }
     ensures { Within result (length buf.old - at) }
 {
-    let got = libc::read(fd, &mut buf[at..]);
-    if got >= 0 {
-        return Part::Bytes(io::count(got, &buf[at..]));
+    match file.read(&mut buf[at..]) {
+        Ok(n) => Part::Bytes(n),
+        Err(e) if e.kind() == ErrorKind::Interrupted => Part::Interrupted,
+        Err(_) => Part::Failed,
     }
-    if os::errno() == EINTR {
-        return Part::Interrupted;
-    }
-    Part::Failed
 }
 
 // Reads an open file to its end, or until the buffer is full: how many bytes, or that it cannot be read, whatever came before a read that
 // fails.
-fn read_whole(fd: i32, buf: &mut [u8]) -> Part
+fn read_whole(file: &mut impl Read, buf: &mut [u8]) -> Part
     ensures { Within result (length buf.old) }
 {
     let mut at = 0;
     let mut tries = MOST_TRIES;
     while at < buf.len() {
-        match read_part(fd, buf, at) {
+        match read_part(file, buf, at) {
             Part::Bytes(n) => {
                 if n == 0 {
                     return Part::Bytes(at);
@@ -63,34 +64,34 @@ fn read_whole(fd: i32, buf: &mut [u8]) -> Part
 
 // Reads an open file into the buffer: how many bytes it has, or one more than the buffer holds where it has more. One that cannot be read
 // has none.
-fn read_open(fd: i32, buf: &mut [u8]) -> usize
+fn read_open(file: &mut impl Read, buf: &mut [u8]) -> usize
     ensures { result ≤ length buf.old + 1 }
 {
-    let Part::Bytes(n) = read_whole(fd, buf) else {
+    let Part::Bytes(n) = read_whole(file, buf) else {
         return 0;
     };
     if n < buf.len() {
         return n;
     }
     let mut beyond = [0u8; 1];
-    let Part::Bytes(more) = read_whole(fd, &mut beyond) else {
+    let Part::Bytes(more) = read_whole(file, &mut beyond) else {
         return 0;
     };
     n + more
 }
 
 // "A file that cannot be read counts as empty."
-fn read_file(file: FileName, buf: &mut [u8; MOST_BYTES]) -> usize
+fn read_file(files: &impl Files, file: FileName, buf: &mut [u8; MOST_BYTES]) -> usize
     ensures { result ≤ length buf.old + 1 }
 {
     let name = report::name_of(file);
-    let fd = os::open_read(&name);
-    if fd < 0 {
+    let Ok(path) = str::from_utf8(&name) else {
         return 0;
-    }
-    let n = read_open(fd, buf);
-    libc::close(fd);
-    n
+    };
+    let Ok(mut opened) = fs::open(files, path) else {
+        return 0;
+    };
+    read_open(&mut opened, buf)
 }
 
 // The first bytes of the buffer, as many as there are.
@@ -107,17 +108,18 @@ fn lent<'a>(buf: &'a [u8; MOST_BYTES], size: usize) -> &'a [u8] {
 }
 
 // "cnx if K occurs": it is read only beside a cnd that shows K.
-fn read_node_index(cnd: &[u8], buf: &mut [u8; MOST_BYTES]) -> usize
+fn read_node_index(files: &impl Files, cnd: &[u8], buf: &mut [u8; MOST_BYTES]) -> usize
     ensures { result ≤ length buf.old + 1 }
 {
     if directory::files::shows_triplet(cnd) {
-        return read_file(FileName::Cnx, buf);
+        return read_file(files, FileName::Cnx, buf);
     }
     0
 }
 
 // Writes the text of the six files, each with its size.
 fn write_text(
+    out: &mut impl Write,
     sizes: Sizes,
     edg: &[u8],
     edx: &[u8],
@@ -125,26 +127,26 @@ fn write_text(
     rng: &[u8],
     cnd: &[u8],
     cnx: &[u8],
-) {
+) -> io::Result<()> {
     let mut text = [0u8; TEXT_SPACE];
     let n = teller::tell_tile(sizes, edg, edx, fac, rng, cnd, cnx, &mut text);
-    io::write_all(STDOUT_FILENO, &text[0..n]);
+    out.write_all(&text[0..n])
 }
 
-fn main() {
+fn main(rt: HostRuntime) -> io::Result<()> {
     let mut edg = [0u8; MOST_BYTES];
     let mut edx = [0u8; MOST_BYTES];
     let mut fac = [0u8; MOST_BYTES];
     let mut rng = [0u8; MOST_BYTES];
     let mut cnd = [0u8; MOST_BYTES];
     let mut cnx = [0u8; MOST_BYTES];
-    let of_edg = read_file(FileName::Edg, &mut edg);
-    let of_edx = read_file(FileName::Edx, &mut edx);
-    let of_fac = read_file(FileName::Fac, &mut fac);
-    let of_rng = read_file(FileName::Rng, &mut rng);
-    let of_cnd = read_file(FileName::Cnd, &mut cnd);
+    let of_edg = read_file(&rt, FileName::Edg, &mut edg);
+    let of_edx = read_file(&rt, FileName::Edx, &mut edx);
+    let of_fac = read_file(&rt, FileName::Fac, &mut fac);
+    let of_rng = read_file(&rt, FileName::Rng, &mut rng);
+    let of_cnd = read_file(&rt, FileName::Cnd, &mut cnd);
     let nodes = lent(&cnd, of_cnd);
-    let of_cnx = read_node_index(nodes, &mut cnx);
+    let of_cnx = read_node_index(&rt, nodes, &mut cnx);
     let sizes = Sizes {
         edg: of_edg,
         edx: of_edx,
@@ -154,6 +156,7 @@ fn main() {
         cnx: of_cnx,
     };
     write_text(
+        &mut io::writer(&rt),
         sizes,
         lent(&edg, of_edg),
         lent(&edx, of_edx),
@@ -161,5 +164,5 @@ fn main() {
         lent(&rng, of_rng),
         nodes,
         lent(&cnx, of_cnx),
-    );
+    )
 }

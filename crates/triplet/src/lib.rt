@@ -1,4 +1,6 @@
 // Triplet ids: a type byte, then id, tile and external id, each in 0, 1, 2 or 4 bytes.
+#![tactic(auto)]
+
 ghost use Rattle.std.specs.Prelude.{◌≡◌, ◌++◌, ◌+◌, ◌≤◌, ◌<◌, length, drop};
 ghost use Rattle.number.specs.Bytes.{number, written};
 ghost use Rattle.laws.specs.Lowest.{lowest};
@@ -28,7 +30,7 @@ const TILE_WEIGHT: u8 = 16;
 // Bits 3-2; below them stand the two bits that are zero.
 const OTHER_WEIGHT: u8 = 4;
 
-#[derive(Drop)]
+#[derive(Clone, Copy)]
 pub struct Ids {
     pub id: u32,
     pub tile: u32,
@@ -36,21 +38,21 @@ pub struct Ids {
 }
 
 // The ids and how many bytes they took.
-#[derive(Drop)]
+#[derive(Clone, Copy)]
 pub enum Triplet {
     Is(Ids, usize),
     Refused(Refusal),
 }
 
 // How many bytes were written.
-#[derive(Drop)]
+#[derive(Clone, Copy)]
 pub enum Written {
     Bytes(usize),
     Refused(Refusal),
 }
 
 // A part of a triplet: what it reads as, or that it is too large or cut short.
-#[derive(Drop)]
+#[derive(Clone, Copy)]
 enum Part {
     Reads(u32),
     Bad,

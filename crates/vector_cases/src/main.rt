@@ -1,10 +1,16 @@
 // Runs the tiles of data/cases as the program tilecheck would: for each its label and a line end, then the lines. A case is a field of
 // eight fields: the label, the paths of the six files edg, edx, fac, rng, cnd, cnx, and their sizes (eight bytes each).
+#![tactic(auto)]
+
 ghost use Rattle.std.specs.Prelude.{◌<◌};
 
+use casefile::FILE_ROOM;
 use directory::Sizes;
 use limits::MOST_BYTES;
 use number::Order;
+use std::io;
+use std::io::{BufWriter, Write};
+use std::rt::Files;
 use teller::TEXT_SPACE;
 
 // The size of one of the six files, from 0.
@@ -15,8 +21,8 @@ fn size_of(sizes: &[u8], file: usize) -> usize
 }
 
 // The text's first n bytes.
-fn say_front(text: &[u8; TEXT_SPACE], n: usize) {
-    casefile::say_part(text, 0, n);
+fn say_front(out: &mut impl Write, text: &[u8; TEXT_SPACE], n: usize) -> io::Result<()> {
+    casefile::say_part(out, text, 0, n)
 }
 
 // The first bytes of the buffer, as many as there are.
@@ -33,7 +39,16 @@ fn lent<'a>(buf: &'a [u8; MOST_BYTES], size: usize) -> &'a [u8] {
 }
 
 // What is told of the six files, which are said to have these sizes.
-fn tell(said: &[u8], edg: &[u8], edx: &[u8], fac: &[u8], rng: &[u8], cnd: &[u8], cnx: &[u8]) {
+fn tell(
+    out: &mut impl Write,
+    said: &[u8],
+    edg: &[u8],
+    edx: &[u8],
+    fac: &[u8],
+    rng: &[u8],
+    cnd: &[u8],
+    cnx: &[u8],
+) -> io::Result<()> {
     let sizes = Sizes {
         edg: size_of(said, 0),
         edx: size_of(said, 1),
@@ -44,25 +59,26 @@ fn tell(said: &[u8], edg: &[u8], edx: &[u8], fac: &[u8], rng: &[u8], cnd: &[u8],
     };
     let mut text = [0u8; TEXT_SPACE];
     let n = teller::tell_tile(sizes, edg, edx, fac, rng, cnd, cnx, &mut text);
-    say_front(&text, n);
+    say_front(out, &text, n)
 }
 
-fn run_case(case: &[u8]) {
+fn run_case(files: &impl Files, out: &mut impl Write, case: &[u8]) -> io::Result<()> {
     let mut edg = [0u8; MOST_BYTES];
     let mut edx = [0u8; MOST_BYTES];
     let mut fac = [0u8; MOST_BYTES];
     let mut rng = [0u8; MOST_BYTES];
     let mut cnd = [0u8; MOST_BYTES];
     let mut cnx = [0u8; MOST_BYTES];
-    let of_edg = casefile::load(casefile::part(case, 1), &mut edg);
-    let of_edx = casefile::load(casefile::part(case, 2), &mut edx);
-    let of_fac = casefile::load(casefile::part(case, 3), &mut fac);
-    let of_rng = casefile::load(casefile::part(case, 4), &mut rng);
-    let of_cnd = casefile::load(casefile::part(case, 5), &mut cnd);
-    let of_cnx = casefile::load(casefile::part(case, 6), &mut cnx);
-    casefile::say(casefile::part(case, 0));
-    casefile::say(b"\n");
+    let of_edg = casefile::load(files, casefile::part(case, 1), &mut edg);
+    let of_edx = casefile::load(files, casefile::part(case, 2), &mut edx);
+    let of_fac = casefile::load(files, casefile::part(case, 3), &mut fac);
+    let of_rng = casefile::load(files, casefile::part(case, 4), &mut rng);
+    let of_cnd = casefile::load(files, casefile::part(case, 5), &mut cnd);
+    let of_cnx = casefile::load(files, casefile::part(case, 6), &mut cnx);
+    casefile::say(out, casefile::part(case, 0))?;
+    casefile::say(out, b"\n")?;
     tell(
+        out,
         casefile::part(case, 7),
         lent(&edg, of_edg),
         lent(&edx, of_edx),
@@ -70,19 +86,22 @@ fn run_case(case: &[u8]) {
         lent(&rng, of_rng),
         lent(&cnd, of_cnd),
         lent(&cnx, of_cnx),
-    );
+    )
 }
 
-fn run(file: &[u8]) {
+fn run(files: &impl Files, out: &mut impl Write, file: &[u8]) -> io::Result<()> {
     let mut at = 0;
     while at < file.len() {
-        run_case(casefile::field(file, at));
+        run_case(files, out, casefile::field(file, at))?;
         at = casefile::after(file, at);
     }
+    Ok(())
 }
 
-fn main() {
-    let mut buf = io::large_buffer();
-    let n = casefile::load(b"cases", &mut buf);
-    run(&buf[..n]);
+fn main(rt: HostRuntime) -> io::Result<()> {
+    let mut buf = [0u8; FILE_ROOM];
+    let n = casefile::load(&rt, b"cases", &mut buf);
+    let mut out = BufWriter::new(rt.alloc(), io::writer(&rt))?;
+    run(&rt, &mut out, &buf[..n])?;
+    out.flush()
 }

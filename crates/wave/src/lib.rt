@@ -1,4 +1,6 @@
 // Wave heights as text: 1 to 6 digits, optionally a point and 1 to 3 digits, then only spaces; read as whole thousandths.
+#![tactic(auto)]
+
 ghost use Rattle.std.specs.Prelude.{◌≡◌, cond, ◌≤◌, leb};
 ghost use Rattle.wave.specs.Height.{kind_of, step_of, finish_of, height_of, Roomy, OneDigit, worth_of};
 ghost use Rattle.wave.specs.Judgement.{judgement_of};
@@ -26,7 +28,7 @@ const TENTH: u32 = 100;
 const HUNDREDTH: u32 = 10;
 
 // What a byte can be in a wave height; a digit with the number that it says.
-#[derive(Drop)]
+#[derive(Clone, Copy)]
 enum Kind {
     Digit(u32),
     Point,
@@ -36,26 +38,26 @@ enum Kind {
 
 // How far a text was read: in the whole digits, with how many there were and the number that they say; after the point,
 // with how many digits followed it and the thousandths so far; in the spaces, with the thousandths.
-#[derive(Drop)]
+#[derive(Clone, Copy)]
 enum State {
     Whole(u32, u32),
     Part(u32, u32),
     Spaces(u32),
 }
 
-#[derive(Drop)]
+#[derive(Clone, Copy)]
 enum Step {
     Go(State),
     Stop,
 }
 
-#[derive(Drop)]
+#[derive(Clone, Copy)]
 pub enum Height {
     Thousandths(u32),
     Refused(Refusal),
 }
 
-#[derive(Drop)]
+#[derive(Clone, Copy)]
 pub enum Judgement {
     Passes,
     TooHigh,

@@ -1,0 +1,7 @@
+use mathlib.Core.Path.{ap, ◌∙◌}
+use borrow.Author.Rules.{rules}
+use Rattle.abi.specs.PlainColumns.{plain_column}
+use Rattle.abi.proofs.columns.vumbarete_column_step.Goals as goal
+
+pub returns : goal.returns
+returns c = c.plain_column.ensures ∙ ap plain_column c.column_step.ensures

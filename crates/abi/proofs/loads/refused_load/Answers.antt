@@ -1,0 +1,5 @@
+use borrow.Author.Rules.{rules}
+use Rattle.abi.proofs.loads.refused_load.Goals as goal
+
+pub returns : goal.returns
+returns c = simp (← c.table_number.ensures)

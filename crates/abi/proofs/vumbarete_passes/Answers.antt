@@ -1,0 +1,5 @@
+use borrow.Author.Rules.{rules}
+use Rattle.abi.proofs.vumbarete_passes.Goals as goal
+
+pub returns : goal.returns
+returns c = simp (← c.plain_judgement.ensures, ← c.passes.ensures)

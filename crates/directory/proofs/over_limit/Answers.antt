@@ -1,0 +1,6 @@
+-- `directory::over_limit` meets its contract.
+use borrow.Author.Rules.{rules}
+use Rattle.directory.proofs.over_limit.Goals as goal
+
+pub returns : goal.returns
+returns c = rw (c.name.ensures, c.refuse.ensures)

@@ -1,0 +1,6 @@
+use borrow.Author.Rules.{rules}
+use Rattle.header.proofs.judge.refused.Goals as goal
+
+pub returns : goal.returns
+returns c =
+    simp (← c.none_kept-kept.ensures)

@@ -1,0 +1,11 @@
+use borrow.Author.Rules.{rules}
+use Rattle.header.specs.Layouts.{varies}
+use Rattle.header.proofs.layouts.is_varying.Goals as goal
+
+pub returns-then-d : goal.returns-then-d
+unfolding varies
+returns-then-d c = simp c.if-d.true
+
+pub returns : goal.returns
+unfolding varies
+returns c = simp (← c.is_triplet.ensures, ← c.kind_of.ensures, c.if-d.false)

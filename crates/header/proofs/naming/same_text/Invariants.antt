@@ -1,0 +1,14 @@
+use Rattle.header.proofs.NameLaws.{same_length, same_next, same_stop, same_end}
+use Rattle.header.specs.Names.{same_text}
+use lib.ListN.{length, drop}
+use native.Mathlib.Omega.{arith}
+use Prim.Native.Nat.{◌-◌}
+use mathlib.Core.Path.{◌≡◌, refl, sym, ◌∙◌}
+use borrow.Author.Rules.{rules}
+use Rattle.header.proofs.naming.same_text.Given as goal
+
+abbrev pub invariant-loop-i : goal.invariant-loop-i
+invariant-loop-i l = (length l.a ≡ length l.b) × (same_text (drop l.i l.a) (drop l.i l.b) ≡ same_text l.a l.b)
+
+abbrev pub decreases-loop-i : goal.decreases-loop-i
+decreases-loop-i l = length l.a - l.i

@@ -1,0 +1,14 @@
+use borrow.Author.Rules.{rules}
+use Prim.Native.Nat.{◌-◌, ◌%◌}
+use mathlib.Core.Path.{◌≡◌, refl, sym, ◌∙◌}
+use native.Mathlib.Omega.{arith}
+use lib.ListN.{length, drop}
+use Rattle.header.specs.Serving.Numbers.{with_letters, number_of}
+use Rattle.header.proofs.NumberLaws.{letter_next, letters_done}
+use Rattle.header.proofs.numbers.number_of.Given as goal
+
+abbrev pub invariant-loop-i : goal.invariant-loop-i
+invariant-loop-i l = with_letters l.number (drop l.i l.name) ≡ with_letters (length l.name % 32) l.name
+
+abbrev pub decreases-loop-i : goal.decreases-loop-i
+decreases-loop-i l = length l.name - l.i

@@ -1,0 +1,27 @@
+use Rattle.header.proofs.CountLaws.{decimal_next, decimal_done, decimal_bound}
+use Rattle.header.specs.Serving.Stages.{greatest_count}
+use Rattle.header.specs.Places.{decimal}
+use lib.ListN.{take, drop}
+use native.Mathlib.Omega.{arith}
+use Prim.Native.Nat.{◌+◌, ◌-◌, ◌*◌, ◌≤◌}
+use mathlib.Core.Path.{◌≡◌, refl, sym, ◌∙◌}
+use borrow.Author.Rules.{rules}
+use Rattle.header.proofs.places.number_from.Goals as goal
+
+pub loop-i-init : goal.loop-i-init
+loop-i-init c = (omega arith, refl)
+
+pub loop-i-preserved : goal.loop-i-preserved
+loop-i-preserved c =
+    let q = rw (← c.digit_of.ensures.value) at
+    (sym (decimal_next c.args.head.now c.args.p c.args.e c.loop-i.i c.loop-i.value (omega arith) (omega arith)) ∙ c.loop-i.invariant.1) in (
+      decimal_bound c.args.head.now c.args.p c.args.e (c.loop-i.i + 1) (c.loop-i.value * 10 + c.digit_of.result) (λ k. omega (
+        arith,
+        c.shared_slice_known-1.given k,
+      )) (omega arith) q,
+      q,
+    )
+
+pub returns : goal.returns
+returns c =
+    decimal_done c.args.head.now c.args.p c.args.e c.loop-i.i c.loop-i.value (omega arith) ∙ c.loop-i.invariant.1

@@ -1,0 +1,17 @@
+use borrow.Author.Rules.{rules}
+use mathlib.Core.Path.{◌≡◌, refl, ap, ◌∙◌}
+use Prim.Native.Nat.{ℕ, suc, ◌-◌, ◌≤◌}
+use native.Mathlib.Omega.{arith}
+use lib.ListN.{get_or, replicate}
+use Rattle.laws.specs.Buffer.{front}
+use Rattle.laws.proofs.BufferLaws.{front_next}
+use Rattle.taken.specs.Numbers.{number_by}
+use Rattle.load.specs.Serving.CellPlans.{cell_at, cells_at}
+use Rattle.load.proofs.cells.edge_cells.Given as goal
+
+abbrev pub invariant-loop-k : goal.invariant-loop-k
+invariant-loop-k l =
+    (l.k ≤ 6) × (l.cells ≡ front (λ k. cell_at l.order l.file (get_or l.letters k 0) (get_or l.columns k 0) l.places l.origin l.end) l.k (replicate 6 0))
+
+abbrev pub decreases-loop-k : goal.decreases-loop-k
+decreases-loop-k l = 6 - l.k

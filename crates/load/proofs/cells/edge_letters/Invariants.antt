@@ -1,0 +1,18 @@
+use mathlib.Core.Path.{◌≡◌, refl, ap, ◌∙◌}
+use Prim.Native.Nat.{ℕ, suc, pred, ◌-◌, ◌≤◌}
+use native.Mathlib.Omega.{arith}
+use lib.ListN.{get_or, replicate}
+use Rattle.laws.specs.Buffer.{front}
+use Rattle.laws.proofs.BufferLaws.{front_next}
+use Rattle.field.specs.Fields.{letter_of}
+use Rattle.table.specs.Rows.{column_at}
+use Rattle.load.specs.Serving.CellPlans.{letters_of}
+use borrow.Author.Rules.{rules}
+use Rattle.load.proofs.cells.edge_letters.Given as goal
+
+abbrev pub invariant-loop-k : goal.invariant-loop-k
+invariant-loop-k l =
+    (l.k ≤ 6) × (l.letters ≡ front (λ k. letter_of (column_at l.layout (get_or l.columns k 0)).kind) l.k (replicate 6 0))
+
+abbrev pub decreases-loop-k : goal.decreases-loop-k
+decreases-loop-k l = 6 - l.k

@@ -1,0 +1,17 @@
+use borrow.Author.Rules.{rules}
+use mathlib.Core.Path.{◌≡◌, refl, ap, ◌∙◌}
+use Prim.Native.Nat.{ℕ, suc, ◌-◌, ◌≤◌}
+use native.Mathlib.Omega.{arith}
+use lib.ListN.{replicate}
+use Rattle.laws.specs.Buffer.{front}
+use Rattle.laws.proofs.BufferLaws.{front_next}
+use Rattle.limits.specs.Limits.{most_columns}
+use Rattle.table.specs.Rows.{column_at}
+use Rattle.load.specs.Serving.CellPlans.{offsets_of}
+use Rattle.load.proofs.cells.offsets_of.Given as goal
+
+abbrev pub invariant-loop-k : goal.invariant-loop-k
+invariant-loop-k l = (l.k ≤ most_columns) × (l.offsets ≡ front (λ k. (column_at l.layout (suc k)).offset) l.k (replicate most_columns 0))
+
+abbrev pub decreases-loop-k : goal.decreases-loop-k
+decreases-loop-k l = most_columns - l.k

@@ -1,0 +1,5 @@
+use borrow.Author.Rules.{rules}
+use Rattle.reader.proofs.place_after.Goals as goal
+
+pub returns-in-Column : goal.returns-in-Column
+returns-in-Column c = simp c.in-Column.is

@@ -1,9 +1,0 @@
-use borrow.Author.Rules.{rules}
-use Rattle.reader.proofs.step_at.Statement.{statement}
-use Rattle.reader.proofs.step_at.Tie as tie
-
-returns : tie.Need-returns
-returns c = simp (← c.place_after.ensures, ← c.before.column_step.ensures)
-
-pub step-at-spec : {M : Type 1} → statement M
-step-at-spec = tie.close (tie.spec (λ c κs. search rules) (λ c κs. search rules) returns)

@@ -1,0 +1,7 @@
+use Rattle.table.specs.Values.{part_of}
+use borrow.Author.Rules.{rules}
+use Rattle.table.proofs.part_of.Goals as goal
+
+pub returns : goal.returns
+unfolding part_of
+returns c = simp (← c.part.ensures, ← c.extent_of-extent.ensures)

@@ -1,0 +1,16 @@
+use borrow.Author.Rules.{rules}
+use Rattle.table.specs.Plans.{code_at, plan_of}
+use Rattle.limits.specs.Limits.{most_columns}
+use Rattle.laws.proofs.BufferLaws.{front_next}
+use Rattle.laws.specs.Buffer.{front}
+use lib.ListN.{replicate}
+use native.Mathlib.Omega.{arith}
+use Prim.Native.Nat.{ℕ, ◌-◌, ◌≤◌}
+use mathlib.Core.Path.{◌≡◌, refl, ap, ◌∙◌}
+use Rattle.table.proofs.rows.plan_of.Given as goal
+
+abbrev pub invariant-loop-j : goal.invariant-loop-j
+invariant-loop-j l = (l.j ≤ l.n) × (l.n ≤ most_columns) × (l.plan ≡ front (code_at l.layout) l.j (replicate most_columns 0))
+
+abbrev pub decreases-loop-j : goal.decreases-loop-j
+decreases-loop-j l = l.n - l.j

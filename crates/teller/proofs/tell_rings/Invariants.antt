@@ -1,0 +1,28 @@
+use borrow.Author.Rules.{rules}
+use Prim.Native.Nat.{◌≤◌, ◌+◌, ◌*◌, ◌-◌}
+use mathlib.Core.Path.{◌≡◌, refl, ◌∙◌}
+use native.Mathlib.Omega.{arith}
+use lib.ListN.{length}
+use lib.Seq.{sets}
+use Rattle.report.proofs.LineFits.{accept_fits}
+use Rattle.report.specs.Lines.{line_room, accept_line}
+use Rattle.load.specs.Columns.{Columns, columns}
+use Rattle.directory.specs.Columns.{held}
+use Rattle.tile.specs.Columns.{Tile}
+use Rattle.tile.specs.Walk.{all_steps}
+use Rattle.directory.proofs.StepLaws.{steps_next, steps_few}
+use Rattle.limits.specs.Limits.{program_sides}
+use Rattle.teller.specs.Text.{ring_lines}
+use Rattle.teller.proofs.TextLaws.{accept_bytes, accept_told, same_room, ring_face, ring_added, room_left, text_whole}
+use Rattle.teller.proofs.tell_rings.Given as goal
+
+abbrev pub invariant-loop-i : goal.invariant-loop-i
+invariant-loop-i l =
+    let t = held l.counts (columns l.start_node l.end_node l.right_face l.left_face l.right_edge l.left_edge l.ring_ptr l.fac_id l.start_edge l.first_edge) in
+    (l.i ≤ l.rings) × (length l.sides ≡ program_sides) × (l.all ≡ all_steps t program_sides l.i) × (l.all ≤ program_sides * l.i)
+    × (l.at ≡ l.initial.at + length (ring_lines t l.i))
+    × (l.text ≡ sets l.initial.text l.initial.at (ring_lines t l.i))
+
+abbrev pub decreases-loop-i : goal.decreases-loop-i
+decreases-loop-i l =
+    l.rings - l.i

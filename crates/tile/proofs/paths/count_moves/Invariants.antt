@@ -1,0 +1,21 @@
+use mathlib.Core.Path.{◌≡◌, refl, ap, ◌∙◌}
+use native.Mathlib.Omega.{arith}
+use Prim.Native.Nat.{ℕ, ◌*◌, ◌-◌, ◌≤◌}
+use lib.ListN.{length}
+use Rattle.side.specs.Edges.{edges, side_count}
+use Rattle.tile.specs.Walk.{moves, moves_from}
+use Rattle.tile.specs.Serving.Stages.{in_full}
+use Rattle.tile.specs.declared.Walked.TheVariants.{Refused}
+use Rattle.tile.proofs.WalkLaws.{stops_here, back_home, moves_on, stays_open}
+use Rattle.tile.proofs.SuccessorLaws.{goes_to}
+use Rattle.side.proofs.SideLaws.{after-at_most}
+use borrow.Author.Rules.{rules}
+use Rattle.tile.proofs.paths.count_moves.Given as goal
+
+abbrev pub invariant-loop-k : goal.invariant-loop-k
+invariant-loop-k l = (l.k ≤ l.n) × (l.n ≡ 2 * length l.start_node) × (moves
+    (edges l.start_node l.end_node l.right_face l.left_face l.right_edge l.left_edge) l.start ≡ moves_from
+    (edges l.start_node l.end_node l.right_face l.left_face l.right_edge l.left_edge) l.start (l.n - l.k) l.s l.k) × (l.s ≤ 2 * length l.start_node)
+
+abbrev pub decreases-loop-k : goal.decreases-loop-k
+decreases-loop-k l = l.n - l.k
