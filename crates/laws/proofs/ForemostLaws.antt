@@ -1,6 +1,6 @@
 -- The laws of the foremost of g 1, .., g n, over any order with ties.
 use mathlib.Core.Path.{◌≡◌, refl, sym, ap, ◌∙◌}
-use mathlib.Core.Logic.{◌⊎◌, ⊎_elim, ⊎_swap, by_cases}
+use mathlib.Core.Logic.{⊎_elim, ⊎_swap, by_cases}
 use mathlib.Core.Bool.{Bool, true, false, cond, true≢false}
 use Prim.Native.Nat.{ℕ, zero, suc, ◌≤◌, ◌<◌}
 use native.Mathlib.Nat.{le_refl}

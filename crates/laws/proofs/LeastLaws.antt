@@ -8,10 +8,10 @@ use native.Mathlib.Numerals.{add-one}
 use native.Mathlib.Decide.{dec_le, dec_lt}
 use native.Mathlib.Omega.{arith}
 use lib.Dec.{eqb, ltb}
-use borrow.Author.Tests.{eq-eqb, ne_eqb, eqb-true, lt-ltb, le-ltb, ltb-true}
+use borrow.Author.Tests.{eq-eqb, ne_eqb, lt-ltb, le-ltb}
 use Rattle.laws.specs.Lowest.{lowest, None, At, lesser, least, LeastAt}
 use Rattle.laws.specs.Sums.{Into}
-use Rattle.laws.proofs.LowestLaws.{bool_cases, lowest_cases, lowest_none, lowest_is, lowest_some, lowest-pos}
+use Rattle.laws.proofs.LowestLaws.{bool_cases, lowest_cases, lowest_none, lowest_is, lowest_some}
 
 -- ---- the smaller of two, where 0 is none
 pub lesser_left : (a b : ℕ) → a ≡ 0 → lesser a b ≡ b

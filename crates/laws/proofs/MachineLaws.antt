@@ -1,11 +1,11 @@
 -- One turn of a machine's loop, as the code takes it: at place i of the text s.
-use mathlib.Core.Path.{◌≡◌, refl, sym, ap, subst, ◌∙◌}
+use mathlib.Core.Path.{◌≡◌, refl, sym, subst}
 use native.Mathlib.Omega.{arith}
-use mathlib.Core.List.{List, [], ◌∷◌, ◌++◌}
-use Prim.Native.Nat.{ℕ, zero, suc, ◌+◌, ◌≤◌, ◌<◌}
-use lib.ListN.{length, get_or, take, drop, drop_of_length-le}
+use mathlib.Core.List.{List, [], ◌∷◌}
+use Prim.Native.Nat.{ℕ, suc, ◌+◌, ◌≤◌, ◌<◌}
+use lib.ListN.{length, get_or, drop, drop_of_length-le}
 use lib.Seq.{drop-cons}
-use Rattle.laws.specs.Machine.{End, ended, stuck, Next, go, stop, follow, run, on_next, Accepts, Continues, FirstBad}
+use Rattle.laws.specs.Machine.{ended, stuck, Next, go, stop, follow, run, on_next, Accepts, Continues, FirstBad}
 
 module _ {S : Type 0} (step : S → ℕ → Next S) (s : List ℕ) (st : S) (i : ℕ) where
   pub run_next : (st' : S) → i < length s → step st (get_or s i 0) ≡ go st' → run step (drop i s) st i ≡ run step (drop (suc i) s) st' (suc i)

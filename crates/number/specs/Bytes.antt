@@ -1,6 +1,6 @@
 -- Unsigned numbers in bytes: "`L` (least significant byte first), `M` (most significant first)". One definition over the width
 -- and the order.
-use Rattle.std.specs.Prelude.{◌≡◌, Bool, cond, List, [], ◌∷◌, ◌++◌, reverse, ℕ, zero, suc, ◌+◌, ◌*◌, ◌/◌, ◌%◌, ◌<◌, eqb, leb, length, get_or, take, drop}
+use Rattle.std.specs.Prelude.{Bool, cond, List, [], ◌∷◌, ◌++◌, reverse, ℕ, zero, suc, ◌+◌, ◌*◌, ◌/◌, ◌%◌, ◌<◌, eqb, leb, length, get_or, take, drop}
 use Rattle.number.specs.declared.Order.{Order}
 use Rattle.number.specs.declared.Order.TheVariants.{Least, Most}
 use Rattle.number.specs.declared.OrderLetter.{OrderLetter}

@@ -1,12 +1,12 @@
 -- The laws of tests in order: what a loop over rows needs, and what the first refusal of a list says.
 use mathlib.Core.Path.{◌≡◌, refl, sym, ap, ◌∙◌}
-use mathlib.Core.Bool.{Bool, true, false, true≢false}
+use mathlib.Core.Bool.{Bool, true, false}
 use mathlib.Core.List.{List, [], ◌∷◌, ◌++◌, append-nil}
 use Prim.Native.Nat.{ℕ, zero, suc, ◌+◌, ◌≤◌, ◌<◌}
 use native.Mathlib.Omega.{arith}
 use native.Mathlib.Numerals.{add-one}
-use lib.Dec.{eqb, ltb, leb}
-use borrow.Author.Tests.{lt-ltb, le-ltb, eq-eqb, ne_eqb, eqb-true, eqb-false, ltb-true}
+use lib.Dec.{eqb}
+use borrow.Author.Tests.{lt-ltb, eq-eqb, ne_eqb, eqb-true, eqb-false, ltb-true}
 use Rattle.laws.specs.Lowest.{lowest, None}
 use Rattle.laws.proofs.LowestLaws.{none_next, lowest_found, lowest_nothing, lowest-zero, lowest-pos, bool_cases}
 use Rattle.refusal.specs.declared.Refusal.{Refusal}

@@ -1,4 +1,3 @@
-use borrow.Author.Rules.{rules}
 use Rattle.grammar.specs.Fields.{holds}
 use Rattle.grammar.proofs.class_holds.Goals as goal
 

@@ -1,4 +1,3 @@
-use borrow.Author.Rules.{rules}
 use borrow.Author.Tests.{eq-eqb, ne_eqb}
 use Rattle.grammar.specs.Scan.{closes}
 use Rattle.grammar.proofs.closes_at.Goals as goal

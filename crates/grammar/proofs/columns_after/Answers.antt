@@ -1,4 +1,3 @@
-use borrow.Author.Rules.{rules}
 use Rattle.grammar.proofs.columns_after.Goals as goal
 
 pub returns-in-ColumnIsWhole : goal.returns-in-ColumnIsWhole

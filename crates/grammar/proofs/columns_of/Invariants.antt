@@ -1,11 +1,6 @@
-use borrow.Author.Rules.{rules}
-use mathlib.Core.Path.{sym, ◌∙◌}
 use Prim.Native.Nat.{◌-◌}
-use native.Mathlib.Omega.{arith}
-use native.Mathlib.Nat.{lt_irrefl}
-use borrow.Author.Tests.{not-false}
 use lib.ListN.{length}
-use Rattle.grammar.proofs.PassLaws.{Counted, counted_first, counted_more, counted_all}
+use Rattle.grammar.proofs.PassLaws.{Counted}
 use Rattle.grammar.proofs.columns_of.Given as goal
 
 abbrev pub invariant-loop-at : goal.invariant-loop-at

@@ -1,4 +1,3 @@
-use borrow.Author.Rules.{rules}
 use borrow.Author.Tests.{eq-eqb, ne_eqb}
 use Rattle.grammar.specs.Scan.{ends}
 use Rattle.grammar.proofs.ends_columns.Goals as goal

@@ -1,4 +1,3 @@
-use borrow.Author.Rules.{rules}
 use Rattle.grammar.proofs.finish_at.Goals as goal
 
 pub returns-in-TextIsWhole : goal.returns-in-TextIsWhole

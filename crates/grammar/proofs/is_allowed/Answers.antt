@@ -1,4 +1,3 @@
-use borrow.Author.Rules.{rules}
 use Rattle.grammar.specs.Fields.{allowed}
 use Rattle.grammar.proofs.is_allowed.Goals as goal
 

@@ -1,4 +1,3 @@
-use borrow.Author.Rules.{rules}
 use borrow.Author.Tests.{eq-eqb, ne_eqb}
 use Rattle.grammar.specs.Scan.{stars}
 use Rattle.grammar.proofs.is_star.Goals as goal

@@ -1,4 +1,3 @@
-use borrow.Author.Rules.{rules}
 use borrow.Author.Tests.{eq-eqb, ne_eqb}
 use Rattle.grammar.specs.Scan.{lacks_comma}
 use Rattle.grammar.proofs.lacks_comma.Goals as goal

@@ -1,4 +1,3 @@
-use borrow.Author.Rules.{rules}
 use Rattle.grammar.proofs.PassLaws.{then}
 use Rattle.grammar.proofs.past_column.Goals as goal
 

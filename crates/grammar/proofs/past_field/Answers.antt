@@ -1,4 +1,3 @@
-use borrow.Author.Rules.{rules}
 use Rattle.grammar.proofs.PassLaws.{past_field}
 use Rattle.grammar.proofs.past_field.Goals as goal
 

@@ -1,4 +1,3 @@
-use borrow.Author.Rules.{rules}
 use Rattle.grammar.proofs.rule_of.Goals as goal
 
 pub returns-in-OrderLetter : goal.returns-in-OrderLetter

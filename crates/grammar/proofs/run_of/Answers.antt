@@ -1,7 +1,5 @@
 use borrow.Author.Rules.{rules}
 use mathlib.Core.Path.{sym, ◌∙◌}
-use Prim.Native.Nat.{◌-◌}
-use Rattle.grammar.specs.Serving.Passing.{Run}
 use Rattle.grammar.proofs.PassLaws.{run_none, run_more}
 use Rattle.grammar.proofs.run_of.Goals as goal
 

@@ -1,14 +1,9 @@
-use borrow.Author.Rules.{rules}
-use mathlib.Core.Path.{◌≡◌, refl, sym, ap, ◌∙◌}
+use mathlib.Core.Path.{◌≡◌}
 use Prim.Native.Nat.{◌-◌, ◌≤◌}
-use native.Mathlib.Omega.{arith}
-use native.Mathlib.Numerals.{add-one}
-use lib.ListN.{length, get_or, drop}
+use lib.ListN.{length, drop}
 use Rattle.laws.specs.Machine.{run}
-use Rattle.laws.proofs.MachineLaws.{run_next, run-stop, run_end}
-use Rattle.grammar.specs.Scan.{machine, start, move, next_of, answer, scan_of}
-use Rattle.grammar.specs.declared.Move.TheVariants.{To, Stop}
-use Rattle.grammar.proofs.ScanBounds.{Bound, bound_move}
+use Rattle.grammar.specs.Scan.{machine, start}
+use Rattle.grammar.proofs.ScanBounds.{Bound}
 use Rattle.grammar.proofs.scan_bytes.Given as goal
 
 abbrev pub invariant-loop-i : goal.invariant-loop-i

@@ -1,4 +1,3 @@
-use borrow.Author.Rules.{rules}
 use mathlib.Core.Path.{◌∙◌}
 use Rattle.grammar.specs.Scan.{move}
 use Rattle.grammar.proofs.step.Goals as goal

@@ -1,4 +1,3 @@
-use borrow.Author.Rules.{rules}
 use Rattle.grammar.proofs.step_specially.Goals as goal
 
 pub returns-then-ends_columns : goal.returns-then-ends_columns

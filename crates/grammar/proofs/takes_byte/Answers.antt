@@ -1,4 +1,3 @@
-use borrow.Author.Rules.{rules}
 use borrow.Author.Tests.{le-ltb, lt-ltb}
 use Rattle.grammar.specs.Scan.{takes}
 use Rattle.grammar.proofs.takes_byte.Goals as goal

@@ -1,4 +1,3 @@
-use borrow.Author.Rules.{rules}
 use borrow.Author.Tests.{eq-eqb, ne_eqb}
 use Rattle.number.specs.Bytes.{order_of}
 use Rattle.number.proofs.order_of.Goals as goal

@@ -1,7 +1,6 @@
 use native.Mathlib.Numerals.{add-one}
 use native.Mathlib.Omega.{arith}
 use lib.ListN.{length-set}
-use borrow.Author.Rules.{rules}
 use Rattle.number.proofs.put2.Goals as goal
 
 pub bounds-s-at-2 : goal.bounds-s-at-2

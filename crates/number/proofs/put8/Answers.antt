@@ -1,7 +1,6 @@
 use native.Mathlib.Numerals.{add-one, add-two, add-three, add-four, add_five, add_six, add_seven}
 use native.Mathlib.Omega.{arith}
 use lib.ListN.{length-set}
-use borrow.Author.Rules.{rules}
 use Rattle.number.proofs.put8.Goals as goal
 
 pub bounds-s-at-2 : goal.bounds-s-at-2

@@ -1,4 +1,3 @@
-use borrow.Author.Rules.{rules}
 use Rattle.number.proofs.NumberLaws.{number_outside, read_one}
 use mathlib.Core.Path.{sym}
 use native.Mathlib.Omega.{arith}

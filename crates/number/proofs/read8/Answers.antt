@@ -1,4 +1,3 @@
-use borrow.Author.Rules.{rules}
 use Rattle.number.specs.declared.Order.TheVariants.{Least, Most}
 use Rattle.number.proofs.NumberLaws.{number_outside, read_by}
 use mathlib.Core.Path.{◌∙◌, sym}

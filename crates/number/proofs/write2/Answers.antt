@@ -1,4 +1,3 @@
-use borrow.Author.Rules.{rules}
 use Rattle.number.proofs.NumberLaws.{written_outside, write_by}
 use mathlib.Core.Path.{◌∙◌, sym}
 use Rattle.number.specs.declared.Order.TheVariants.{Least, Most}

@@ -1,6 +1,5 @@
 -- `side::choose` meets its contract: each answer is the branch of `leaving` with the tests that led to it.
 use borrow.Author.Tests.{eq-eqb, ne_eqb}
-use borrow.Author.Rules.{rules}
 use Rattle.side.proofs.choose.Goals as goal
 
 pub returns-then-left_face-face : goal.returns-then-left_face-face

@@ -1,7 +1,6 @@
 -- `side::follow` meets its contract: a link outside 1..E is 22, and else the side is chosen of the four rows that were read.
 use Rattle.side.specs.Edges.{edges}
 use Rattle.side.proofs.SideLaws.{link_zero, link_beyond, chosen}
-use borrow.Author.Rules.{rules}
 use Rattle.side.proofs.follow.Goals as goal
 
 pub returns-then-e-eq0 : goal.returns-then-e-eq0

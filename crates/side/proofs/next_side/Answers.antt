@@ -1,7 +1,6 @@
 -- `side::next_side` meets its contract: the right and the left side each read their own three columns.
 use Rattle.side.specs.Edges.{edges}
 use Rattle.side.proofs.SideLaws.{right_follows, left_follows}
-use borrow.Author.Rules.{rules}
 use Rattle.side.proofs.next_side.Goals as goal
 
 pub returns-then-s-eq1 : goal.returns-then-s-eq1

@@ -1,7 +1,6 @@
 -- `side::row` meets its contract: the index that was tested is inside, and what lies past the end reads as 0.
 use native.Mathlib.Omega.{arith}
 use Rattle.laws.proofs.EntryLaws.{entry_inside, entry_past}
-use borrow.Author.Rules.{rules}
 use Rattle.side.proofs.row.Goals as goal
 
 pub returns-then-e-eq0 : goal.returns-then-e-eq0

@@ -1,4 +1,3 @@
-use borrow.Author.Rules.{rules}
 use native.Mathlib.Omega.{arith}
 use Rattle.wave.proofs.RoomLaws.{ten_room}
 use borrow.Author.Tests.{le-ltb, lt-ltb}

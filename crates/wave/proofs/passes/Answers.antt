@@ -1,4 +1,3 @@
-use borrow.Author.Rules.{rules}
 use mathlib.Core.Path.{◌∙◌, sym}
 use Rattle.wave.specs.Judgement.{judgement_of}
 use Rattle.wave.proofs.passes.Goals as goal

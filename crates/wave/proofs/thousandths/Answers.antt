@@ -1,13 +1,11 @@
 use borrow.Author.Rules.{rules}
 use mathlib.Core.Path.{◌≡◌, refl, sym, ap, ◌∙◌}
-use Prim.Native.Nat.{◌-◌, ◌≤◌}
 use native.Mathlib.Omega.{arith}
 use native.Mathlib.Numerals.{add-one}
-use lib.ListN.{length, get_or, drop}
-use Rattle.laws.specs.Machine.{run}
+use lib.ListN.{length, get_or}
 use Rattle.laws.proofs.MachineLaws.{run_next, run-stop, run_end}
 use Rattle.refusal.specs.declared.Refusal.{Refusal}
-use Rattle.wave.specs.Height.{Roomy, machine, start, kind_of, step_of, next_of, answer, height_of}
+use Rattle.wave.specs.Height.{machine, kind_of, step_of, next_of, answer, height_of}
 use Rattle.wave.specs.declared.Height.TheVariants.{Refused}
 use Rattle.wave.specs.declared.Step.TheVariants.{Go, Stop}
 use Rattle.wave.proofs.Bytes.{one_digit}

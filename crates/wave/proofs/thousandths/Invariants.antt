@@ -1,17 +1,8 @@
-use borrow.Author.Rules.{rules}
-use mathlib.Core.Path.{◌≡◌, refl, sym, ap, ◌∙◌}
+use mathlib.Core.Path.{◌≡◌}
 use Prim.Native.Nat.{◌-◌, ◌≤◌}
-use native.Mathlib.Omega.{arith}
-use native.Mathlib.Numerals.{add-one}
-use lib.ListN.{length, get_or, drop}
+use lib.ListN.{length, drop}
 use Rattle.laws.specs.Machine.{run}
-use Rattle.laws.proofs.MachineLaws.{run_next, run-stop, run_end}
-use Rattle.refusal.specs.declared.Refusal.{Refusal}
-use Rattle.wave.specs.Height.{Roomy, machine, start, kind_of, step_of, next_of, answer, height_of}
-use Rattle.wave.specs.declared.Height.TheVariants.{Refused}
-use Rattle.wave.specs.declared.Step.TheVariants.{Go, Stop}
-use Rattle.wave.proofs.Bytes.{one_digit}
-use Rattle.wave.proofs.RoomLaws.{roomy_step}
+use Rattle.wave.specs.Height.{Roomy, machine, start}
 use Rattle.wave.proofs.thousandths.Given as goal
 
 abbrev pub invariant-loop-i : goal.invariant-loop-i

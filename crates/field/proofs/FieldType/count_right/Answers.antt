@@ -1,4 +1,3 @@
-use borrow.Author.Rules.{rules}
 use Rattle.field.specs.Fields.{count_right}
 use Rattle.field.proofs.FieldType.count_right.Goals as goal
 

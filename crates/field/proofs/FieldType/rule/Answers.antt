@@ -1,7 +1,6 @@
 use mathlib.Core.Path.{◌≡◌, sym, ap, ◌∙◌}
 use Prim.Native.Nat.{◌≤◌}
 use native.Mathlib.Omega.{arith}
-use borrow.Author.Rules.{rules}
 use Rattle.field.specs.declared.FieldType.{FieldType}
 use Rattle.field.specs.declared.Rule.{Rule}
 use Rattle.field.specs.Fields.{width_of, widest, rule_of}
