@@ -3,7 +3,7 @@
 use mathlib.Core.Path.{◌≡◌, refl, sym, ◌∙◌}
 use mathlib.Core.Bool.{Bool, true, false, not, ◌&&◌, cond}
 use mathlib.Core.List.{List}
-use Prim.Native.Nat.{ℕ, zero, suc, ◌+◌, ◌*◌, ◌/◌, ◌%◌, ◌≤◌, ◌<◌}
+use Prim.Native.Nat.{ℕ, suc, ◌+◌, ◌*◌, ◌/◌, ◌%◌, ◌≤◌, ◌<◌}
 use native.Mathlib.Omega.{arith}
 use native.Mathlib.Nat.{mul-le-mul_right, suc-mul, div-mul-le_self, div-le_self, div-eq_of_lt, le-div_iff_mul-le, one-mul, zero-mul, mul-div_cancel}
 use native.Mathlib.Numerals.{add-one}
@@ -11,7 +11,7 @@ use lib.ListN.{length}
 use lib.Ieee.{Float, Format, binary32, binary64, lt, hid, ones, top, of_bits}
 use lib.Ieee.Scale.{finite}
 use borrow.Author.Tests.{eq-eqb, ne_eqb}
-use Rattle.laws.specs.Lowest.{None, lowest}
+use Rattle.laws.specs.Lowest.{None}
 use Rattle.laws.proofs.LowestLaws.{none_start, none_next, lowest_found, lowest_nothing}
 use Rattle.laws.proofs.ForemostLaws.{foremost_one}
 use Rattle.refusal.specs.Order.{refusal}

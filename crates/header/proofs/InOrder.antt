@@ -12,7 +12,7 @@ use Rattle.laws.proofs.TestLaws.{clash}
 use Rattle.grammar.specs.Words.{Reading, Reads}
 use Rattle.grammar.proofs.FirstBadByte.{first_bad_byte}
 use Rattle.grammar.proofs.GrammarExact.{grammar_exact}
-use Rattle.header.specs.Judge.{text_length, tests, header_refusal}
+use Rattle.header.specs.Judge.{tests, header_refusal}
 use Rattle.header.specs.Refusals.{SaysLength, text_in, OfLength, OfReading, LeavesGrammar, Test, five_bytes, order_letter, text_fits}
 use Rattle.header.specs.Refusals.{text_limit, in_grammar, columns_sound, columns_limit, names_differ, one_id, rank, Holds, FailsAt}
 use Rattle.header.specs.Refusals.{RefusedWith}

@@ -1,4 +1,3 @@
-use borrow.Author.Rules.{rules}
 use Rattle.abi.proofs.plain_height.Goals as goal
 
 pub returns-in-Thousandths : goal.returns-in-Thousandths

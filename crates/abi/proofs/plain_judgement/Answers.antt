@@ -1,4 +1,3 @@
-use borrow.Author.Rules.{rules}
 use Rattle.abi.proofs.plain_judgement.Goals as goal
 
 pub returns-in-Passes : goal.returns-in-Passes

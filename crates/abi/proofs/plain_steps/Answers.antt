@@ -1,4 +1,3 @@
-use borrow.Author.Rules.{rules}
 use Rattle.abi.proofs.plain_steps.Goals as goal
 
 pub returns-in-Steps : goal.returns-in-Steps

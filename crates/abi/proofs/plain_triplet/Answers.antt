@@ -1,4 +1,3 @@
-use borrow.Author.Rules.{rules}
 use Rattle.abi.proofs.plain_triplet.Goals as goal
 
 pub returns-in-Is : goal.returns-in-Is

@@ -1,4 +1,3 @@
-use borrow.Author.Rules.{rules}
 use Rattle.abi.proofs.vumbarete_triplet.Goals as goal
 
 pub returns : goal.returns

@@ -1,5 +1,4 @@
 -- `extend32`: each bound is the answer of its comparison.
-use borrow.Author.Rules.{rules}
 use Rattle.bounds.proofs.extend32.Goals as goal
 
 pub returns : goal.returns

@@ -1,5 +1,4 @@
 -- `extend64`: each bound is the answer of its comparison.
-use borrow.Author.Rules.{rules}
 use Rattle.bounds.proofs.extend64.Goals as goal
 
 pub returns : goal.returns

@@ -1,5 +1,4 @@
 -- `find_bounds32`: no coordinate, a first that is not finite, or the first and the further ones.
-use borrow.Author.Rules.{rules}
 use mathlib.Core.Path.{sym, ap, ◌∙◌}
 use Prim.Native.Nat.{◌*◌}
 use native.Mathlib.Omega.{arith}

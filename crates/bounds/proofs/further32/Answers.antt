@@ -1,10 +1,8 @@
 -- `further32`: after i coordinates all are fit and the rectangle is theirs.
-use borrow.Author.Rules.{rules}
-use mathlib.Core.Path.{◌≡◌, refl, sym, ap, ◌∙◌}
-use Prim.Native.Nat.{◌-◌, ◌≤◌}
+use mathlib.Core.Path.{refl, sym, ap, ◌∙◌}
 use native.Mathlib.Omega.{arith}
 use lib.Ieee.{binary32}
-use Rattle.bounds.specs.Bounds.{rectangle32, point32, Coordinates, strided, count as coordinateCount, Reached}
+use Rattle.bounds.specs.Bounds.{rectangle32, point32, Coordinates, strided, count as coordinateCount}
 use Rattle.bounds.proofs.ReadLaws.{Inside, coordinate_inside, reached_next, bounds_stop, bounds_all}
 use Rattle.bounds.proofs.further32.Goals as goal
 use Rattle.bounds.proofs.further32.Goals.{In-loop-i, Start}

@@ -1,10 +1,7 @@
-use borrow.Author.Rules.{rules}
-use mathlib.Core.Path.{◌≡◌, refl, sym, ap, ◌∙◌}
+use mathlib.Core.Path.{◌≡◌}
 use Prim.Native.Nat.{◌-◌, ◌≤◌}
-use native.Mathlib.Omega.{arith}
 use lib.Ieee.{binary32}
-use Rattle.bounds.specs.Bounds.{rectangle32, point32, Coordinates, strided, count as coordinateCount, Reached}
-use Rattle.bounds.proofs.ReadLaws.{Inside, coordinate_inside, reached_next, bounds_stop, bounds_all}
+use Rattle.bounds.specs.Bounds.{rectangle32, strided, count as coordinateCount, Reached}
 use Rattle.bounds.proofs.further32.Given as goal
 
 abbrev pub invariant-loop-i : goal.invariant-loop-i

@@ -1,10 +1,7 @@
-use borrow.Author.Rules.{rules}
-use mathlib.Core.Path.{◌≡◌, refl, sym, ap, ◌∙◌}
+use mathlib.Core.Path.{◌≡◌}
 use Prim.Native.Nat.{◌-◌, ◌≤◌}
-use native.Mathlib.Omega.{arith}
 use lib.Ieee.{binary64}
-use Rattle.bounds.specs.Bounds.{rectangle64, point64, Coordinates, strided, count as coordinateCount, Reached}
-use Rattle.bounds.proofs.ReadLaws.{Inside, coordinate_inside, reached_next, bounds_stop, bounds_all}
+use Rattle.bounds.specs.Bounds.{rectangle64, strided, count as coordinateCount, Reached}
 use Rattle.bounds.proofs.further64.Given as goal
 
 abbrev pub invariant-loop-i : goal.invariant-loop-i

@@ -1,5 +1,4 @@
 -- `read_point32`: the tests of the two patterns are the tests of their floats (the laws of reading, over the width).
-use borrow.Author.Rules.{rules}
 use lib.Ieee.{binary32}
 use Rattle.bounds.proofs.FiniteLaws.{finite_no_nan}
 use Rattle.bounds.proofs.ReadLaws.{point_made, point-not_y, point-not_x}

@@ -1,5 +1,4 @@
 -- `directory::check_loaded` meets its contract: counts that the columns cannot have, or else the check of their front.
-use borrow.Author.Rules.{rules}
 use Rattle.load.specs.Columns.{Columns, columns}
 use Rattle.directory.proofs.OutcomeLaws.{fronts_held, counts_refused, counts_fit}
 use Rattle.directory.proofs.check_loaded.Goals as goal

@@ -1,5 +1,4 @@
 -- `directory::checked_by` meets its contract: a refusal with the file that the definition gives it.
-use borrow.Author.Rules.{rules}
 use Rattle.directory.proofs.checked_by.Goals as goal
 
 pub returns-in-Accepted : goal.returns-in-Accepted

@@ -3,7 +3,6 @@ use lib.ListN.{take}
 use Prim.Native.Nat.{ℕ}
 use native.Mathlib.Nat.{sub-zero}
 use mathlib.Core.Path.{sym, ap}
-use borrow.Author.Rules.{rules}
 use Rattle.directory.proofs.front_of.Goals as goal
 
 pub returns-then-column-n : goal.returns-then-column-n

@@ -1,5 +1,4 @@
 -- `directory::load_files` meets its contract: a file too large, a load that is accepted, or one that is refused.
-use borrow.Author.Rules.{rules}
 use Rattle.load.specs.Columns.{Columns, columns}
 use Rattle.directory.specs.Files.{Directory, directory}
 use Rattle.directory.proofs.OutcomeLaws.{files_read_lem, size_refused, load-answered}

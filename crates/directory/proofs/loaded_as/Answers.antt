@@ -1,5 +1,4 @@
 -- `directory::loaded_as` meets its contract: a refusal with the file that the definition gives it.
-use borrow.Author.Rules.{rules}
 use Rattle.directory.proofs.loaded_as.Goals as goal
 
 pub returns-in-Tile : goal.returns-in-Tile

@@ -1,5 +1,4 @@
 -- `directory::over_limit` meets its contract.
-use borrow.Author.Rules.{rules}
 use Rattle.directory.proofs.over_limit.Goals as goal
 
 pub returns : goal.returns

@@ -1,5 +1,4 @@
 -- `directory::short_table` meets its contract: table by table, as the definition has them.
-use borrow.Author.Rules.{rules}
 use mathlib.Core.Path.{◌≡◌, sym, ◌∙◌}
 use mathlib.Core.Bool.{cond}
 use Rattle.load.specs.Columns.{Columns, columns}
@@ -31,10 +30,10 @@ returns-then-two_short c =
     rw (sym c.six_short.ensures ∙ c.if-six_short.false, le-ltb _ _ c.if-ring_ptr-counts.false, sym c.two_short.ensures ∙ c.if-two_short.true)
 
 -- only the node table is left
-past-rings : (c : Else-two_short) → short_of c.args.counts ((columns c.args.start_node.now c.args.end_node.now c.args.right_face.now c.args.left_face.now c.args.right_edge.now c.args.left_edge.now
+past_rings : (c : Else-two_short) → short_of c.args.counts ((columns c.args.start_node.now c.args.end_node.now c.args.right_face.now c.args.left_face.now c.args.right_edge.now c.args.left_edge.now
     c.args.ring_ptr.now c.args.fac_id.now c.args.start_edge.now c.args.first_edge.now)) ≡ cond (short c.args.counts.nodes c.args.first_edge.now) (Is Cnd) Nothing
 unfolding short_of
-past-rings c =
+past_rings c =
     rw (
       sym c.six_short.ensures ∙ c.if-six_short.false,
       le-ltb _ _ c.if-ring_ptr-counts.false,
@@ -42,7 +41,7 @@ past-rings c =
     )
 
 pub returns-then-first_edge-counts : goal.returns-then-first_edge-counts
-returns-then-first_edge-counts c = rw (past-rings (goal.at.returns-then-first_edge-counts c).Else-two_short, lt-ltb _ _ c.if-first_edge-counts.true)
+returns-then-first_edge-counts c = rw (past_rings (goal.at.returns-then-first_edge-counts c).Else-two_short, lt-ltb _ _ c.if-first_edge-counts.true)
 
 pub returns : goal.returns
-returns c = rw (past-rings (goal.at.returns c).Else-two_short, le-ltb _ _ c.if-first_edge-counts.false)
+returns c = rw (past_rings (goal.at.returns c).Else-two_short, le-ltb _ _ c.if-first_edge-counts.false)

@@ -1,5 +1,4 @@
 -- `directory::six_short` meets its contract.
-use borrow.Author.Rules.{rules}
 use mathlib.Core.Path.{sym, ◌∙◌}
 use Rattle.directory.proofs.six_short.Goals as goal
 

@@ -1,5 +1,4 @@
 -- `directory::take_sizes` meets its contract: field by field the greater of the two.
-use borrow.Author.Rules.{rules}
 use Rattle.directory.specs.Files.{sizes_taken}
 use Rattle.directory.proofs.take_sizes.Goals as goal
 

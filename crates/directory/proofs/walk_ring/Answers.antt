@@ -1,5 +1,4 @@
 -- `directory::walk_ring` meets its contract: the walk of the tile that the fronts are.
-use borrow.Author.Rules.{rules}
 use Rattle.directory.proofs.OutcomeLaws.{fronts_held}
 use Rattle.directory.proofs.walk_ring.Goals as goal
 

@@ -1,4 +1,3 @@
-use borrow.Author.Rules.{rules}
 use Rattle.header.proofs.HeaderLaws.{accepted_step, accepted_starts, accepted_after, accepted_long, refused_step}
 use Rattle.header.proofs.JudgeLaws.{sound_passed, refused_by}
 use native.Mathlib.Omega.{arith}

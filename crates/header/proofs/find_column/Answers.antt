@@ -1,4 +1,3 @@
-use borrow.Author.Rules.{rules}
 use Rattle.header.proofs.HeaderLaws.{found_column}
 use mathlib.Core.Path.{◌∙◌}
 use Rattle.header.proofs.find_column.Goals as goal

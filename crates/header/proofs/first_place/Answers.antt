@@ -1,4 +1,3 @@
-use borrow.Author.Rules.{rules}
 use Rattle.header.proofs.HeaderLaws.{found_start}
 use Rattle.header.proofs.first_place.Goals as goal
 

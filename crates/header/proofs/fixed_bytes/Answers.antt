@@ -1,6 +1,5 @@
 use Prim.Native.Nat.{◌≤◌, ◌*◌}
 use native.Mathlib.Omega.{arith}
-use borrow.Author.Rules.{rules}
 use Rattle.field.specs.Fields.{most_count}
 use Rattle.header.specs.Serving.Stages.{sound_size}
 use Rattle.header.proofs.CountLaws.{size_room}

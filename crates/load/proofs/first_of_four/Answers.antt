@@ -1,4 +1,3 @@
-use borrow.Author.Rules.{rules}
 use borrow.Author.Tests.{eq-eqb, ne_eqb}
 use Rattle.load.specs.Load.{first_found}
 use Rattle.load.proofs.first_of_four.Goals as goal

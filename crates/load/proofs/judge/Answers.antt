@@ -1,4 +1,3 @@
-use borrow.Author.Rules.{rules}
 use Rattle.load.proofs.TopLaws.{found_opening, found_fit, found_rows}
 use Rattle.load.specs.Sources.{files}
 use Rattle.load.proofs.judge.Goals as goal

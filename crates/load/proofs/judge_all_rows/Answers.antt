@@ -1,4 +1,3 @@
-use borrow.Author.Rules.{rules}
 use Rattle.load.specs.Serving.Stages.{all_rows_finding}
 use Rattle.load.proofs.judge_all_rows.Goals as goal
 

@@ -1,6 +1,5 @@
 -- `load::load` meets its contract: what was found is the answer; where nothing was, all that the writing needs holds, and each column is
 -- written as the definition has it.
-use borrow.Author.Rules.{rules}
 use Rattle.load.proofs.TopLaws.{load_refused, load_tile, Writable, writable, edge_columns, written}
 use Rattle.load.specs.Columns.{Columns, columns, lengths}
 use Rattle.load.specs.Sources.{Files, files, table_at}
@@ -21,19 +20,26 @@ lent c =
     c.args.ring_ptr.now c.args.fac_id.now c.args.start_edge.now c.args.first_edge.now
 
 -- all that the writing needs, where nothing was found
-can_write : (c : Else-found-ne0) → Writable ((files c.args.edg.now c.args.edx.now c.args.fac.now c.args.fax.now c.args.rng.now c.args.rnx.now c.args.cnd.now c.args.cnx.now)) (lengths ((columns c.args.start_node.now c.args.end_node.now c.args.right_face.now c.args.left_face.now c.args.right_edge.now c.args.left_edge.now
-    c.args.ring_ptr.now c.args.fac_id.now c.args.start_edge.now c.args.first_edge.now))) c.judge-judged.result
+can_write : (c : Else-found-ne0) → let a = c.args in
+    Writable (files a.edg.now a.edx.now a.fac.now a.fax.now a.rng.now a.rnx.now a.cnd.now a.cnx.now)
+    (lengths (columns a.start_node.now a.end_node.now a.right_face.now a.left_face.now a.right_edge.now a.left_edge.now
+    a.ring_ptr.now a.fac_id.now a.start_edge.now a.first_edge.now)) c.judge-judged.result
 can_write c =
-    writable ((files c.args.edg.now c.args.edx.now c.args.fac.now c.args.fax.now c.args.rng.now c.args.rnx.now c.args.cnd.now c.args.cnx.now)) c.args.most (lengths ((columns c.args.start_node.now c.args.end_node.now c.args.right_face.now c.args.left_face.now c.args.right_edge.now c.args.left_edge.now
-    c.args.ring_ptr.now c.args.fac_id.now c.args.start_edge.now c.args.first_edge.now))) _ c.judge-judged.ensures c.if-found-ne0.false
+    let a = c.args in
+    writable (files a.edg.now a.edx.now a.fac.now a.fax.now a.rng.now a.rnx.now a.cnd.now a.cnx.now) a.most
+    (lengths (columns a.start_node.now a.end_node.now a.right_face.now a.left_face.now a.right_edge.now a.left_edge.now
+    a.ring_ptr.now a.fac_id.now a.start_edge.now a.first_edge.now)) _ c.judge-judged.ensures c.if-found-ne0.false
 
-abbrev may_write : (c : After-write_edges)
-    → Writable ((files c.args.edg.now c.args.edx.now c.args.fac.now c.args.fax.now c.args.rng.now c.args.rnx.now c.args.cnd.now c.args.cnx.now)) (lengths ((columns c.args.start_node.now c.args.end_node.now c.args.right_face.now c.args.left_face.now c.args.right_edge.now c.args.left_edge.now
-    c.args.ring_ptr.now c.args.fac_id.now c.args.start_edge.now c.args.first_edge.now))) c.judge-judged.result
+-- the same after the six columns of edges are written
+may_write : (c : After-write_edges) → let a = c.args in
+    Writable (files a.edg.now a.edx.now a.fac.now a.fax.now a.rng.now a.rnx.now a.cnd.now a.cnx.now)
+    (lengths (columns a.start_node.now a.end_node.now a.right_face.now a.left_face.now a.right_edge.now a.left_edge.now
+    a.ring_ptr.now a.fac_id.now a.start_edge.now a.first_edge.now)) c.judge-judged.result
 may_write c =
-    (let it : Writable ((files c.args.edg.now c.args.edx.now c.args.fac.now c.args.fax.now c.args.rng.now c.args.rnx.now c.args.cnd.now c.args.cnx.now)) (lengths ((columns c.args.start_node.now c.args.end_node.now c.args.right_face.now c.args.left_face.now c.args.right_edge.now c.args.left_edge.now
-    c.args.ring_ptr.now c.args.fac_id.now c.args.start_edge.now c.args.first_edge.now))) c.judge-judged.result = writable ((files c.args.edg.now c.args.edx.now c.args.fac.now c.args.fax.now c.args.rng.now c.args.rnx.now c.args.cnd.now c.args.cnx.now)) c.args.most (lengths ((columns c.args.start_node.now c.args.end_node.now c.args.right_face.now c.args.left_face.now c.args.right_edge.now c.args.left_edge.now
-    c.args.ring_ptr.now c.args.fac_id.now c.args.start_edge.now c.args.first_edge.now))) _ c.judge-judged.ensures c.if-found-ne0.false in it)
+    let a = c.args in
+    writable (files a.edg.now a.edx.now a.fac.now a.fax.now a.rng.now a.rnx.now a.cnd.now a.cnx.now) a.most
+    (lengths (columns a.start_node.now a.end_node.now a.right_face.now a.left_face.now a.right_edge.now a.left_edge.now
+    a.ring_ptr.now a.fac_id.now a.start_edge.now a.first_edge.now)) _ c.judge-judged.ensures c.if-found-ne0.false
 
 pub returns-then-found-ne0 : goal.returns-then-found-ne0
 returns-then-found-ne0 c = record {

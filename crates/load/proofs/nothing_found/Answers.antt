@@ -1,4 +1,3 @@
-use borrow.Author.Rules.{rules}
 use Rattle.load.specs.Load.{finding}
 use Rattle.load.specs.declared.TableName.TheVariants.{Edg}
 use mathlib.Core.Path.{ap, ◌∙◌}

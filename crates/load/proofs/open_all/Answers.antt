@@ -1,4 +1,3 @@
-use borrow.Author.Rules.{rules}
 use Rattle.load.proofs.OpenLaws.{all_opened}
 use Rattle.load.specs.Sources.{files}
 use Rattle.load.proofs.open_all.Goals as goal

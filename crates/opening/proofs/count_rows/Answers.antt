@@ -1,4 +1,3 @@
-use borrow.Author.Rules.{rules}
 use borrow.Author.Tests.{eq-eqb, ne_eqb}
 use Rattle.opening.specs.Opening.{rows_said}
 use Rattle.opening.proofs.count_rows.Goals as goal

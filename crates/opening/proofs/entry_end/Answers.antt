@@ -1,4 +1,3 @@
-use borrow.Author.Rules.{rules}
 use Rattle.opening.proofs.OpeningLaws.{no_entry, by_entry}
 use Rattle.opening.proofs.entry_end.Goals as goal
 

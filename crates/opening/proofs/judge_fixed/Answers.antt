@@ -1,4 +1,3 @@
-use borrow.Author.Rules.{rules}
 use borrow.Author.Tests.{eq-eqb, ne_eqb}
 use Rattle.opening.specs.Opening.{fixed_refusal}
 use Rattle.opening.proofs.judge_fixed.Goals as goal

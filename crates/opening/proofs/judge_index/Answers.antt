@@ -1,7 +1,6 @@
 use Rattle.opening.proofs.OpeningLaws.{index_head, index_entry, index_last, index-fine}
 use mathlib.Core.Path.{sym, ◌∙◌}
 use Rattle.opening.specs.Opening.{end_at}
-use borrow.Author.Rules.{rules}
 use Rattle.opening.proofs.judge_index.Goals as goal
 
 pub returns-then-head_wrong : goal.returns-then-head_wrong

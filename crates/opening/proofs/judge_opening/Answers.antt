@@ -1,6 +1,5 @@
 use Rattle.opening.proofs.OpeningLaws.{open_head, open_rows, open_rest}
 use mathlib.Core.Path.{sym, ◌∙◌}
-use borrow.Author.Rules.{rules}
 use Rattle.opening.proofs.judge_opening.Goals as goal
 
 pub returns-then-lacks_head : goal.returns-then-lacks_head

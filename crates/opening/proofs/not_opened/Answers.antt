@@ -1,4 +1,3 @@
-use borrow.Author.Rules.{rules}
 use Rattle.opening.proofs.not_opened.Goals as goal
 
 pub returns : goal.returns

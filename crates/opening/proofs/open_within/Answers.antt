@@ -2,7 +2,6 @@ use Rattle.opening.proofs.OpeningLaws.{opened_refused, opened_accepted, header_a
 use Rattle.opening.specs.Opening.{table_from}
 use lib.ListN.{length}
 use mathlib.Core.Path.{◌∙◌}
-use borrow.Author.Rules.{rules}
 use Rattle.opening.proofs.open_within.Goals as goal
 
 pub returns-in-Refused : goal.returns-in-Refused
@@ -15,7 +14,8 @@ returns-then-judged-ne0 c =
     header_accepted c.args.file.now c.args.index.now c.args.most c.read_header-head.result c.read_header-head.ensures c.not_opened-then-judged-ne0.result
     c.in-Accepted.is
     (rw (← c.judge_opening-judged.ensures)
-    (c.not_opened-then-judged-ne0.ensures ∙ opened_refused c.judge_opening-judged.result (table_from c.read_header-head.result.layout c.args.index.now (length c.args.file.now)) c.read_header-head.result.names
+    (c.not_opened-then-judged-ne0.ensures ∙ opened_refused c.judge_opening-judged.result (table_from c.read_header-head.result.layout
+    c.args.index.now (length c.args.file.now)) c.read_header-head.result.names
     c.if-judged-ne0.true))
 
 pub returns : goal.returns

@@ -1,4 +1,3 @@
-use borrow.Author.Rules.{rules}
 use borrow.Author.Tests.{eq-eqb, ne_eqb}
 use Rattle.opening.specs.Opening.{size_wrong}
 use Rattle.opening.proofs.size_wrong.Goals as goal

@@ -1,11 +1,9 @@
-use Prim.Native.Nat.{◌≤◌, ◌-◌}
+use Prim.Native.Nat.{◌-◌}
 use native.Mathlib.Omega.{arith}
 use mathlib.Core.Path.{◌≡◌, refl, sym}
-use Rattle.laws.specs.Lowest.{None}
 use Rattle.laws.proofs.LowestLaws.{none_start, none_next, lowest_next, lowest_nothing}
-use Rattle.opening.specs.Opening.{end_at, entry_wrong}
+use Rattle.opening.specs.Opening.{entry_wrong}
 use Rattle.opening.proofs.OpeningLaws.{end_first, entry_fine, entry_wrong_lem, end_next}
-use borrow.Author.Rules.{rules}
 use Rattle.opening.proofs.wrong_entry.Goals as goal
 
 pub loop-i-init : goal.loop-i-init

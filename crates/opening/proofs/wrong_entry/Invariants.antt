@@ -1,11 +1,7 @@
 use Prim.Native.Nat.{◌≤◌, ◌-◌}
-use native.Mathlib.Omega.{arith}
-use mathlib.Core.Path.{◌≡◌, refl, sym}
+use mathlib.Core.Path.{◌≡◌}
 use Rattle.laws.specs.Lowest.{None}
-use Rattle.laws.proofs.LowestLaws.{none_start, none_next, lowest_next, lowest_nothing}
 use Rattle.opening.specs.Opening.{end_at, entry_wrong}
-use Rattle.opening.proofs.OpeningLaws.{end_first, entry_fine, entry_wrong_lem, end_next}
-use borrow.Author.Rules.{rules}
 use Rattle.opening.proofs.wrong_entry.Given as goal
 
 abbrev pub invariant-loop-i : goal.invariant-loop-i

@@ -1,4 +1,3 @@
-use borrow.Author.Rules.{rules}
 use Rattle.reader.proofs.place_after.Goals as goal
 
 pub returns-in-Column : goal.returns-in-Column

@@ -1,5 +1,4 @@
 use mathlib.Core.Path.{sym, ◌∙◌}
-use borrow.Author.Rules.{rules}
 use Rattle.rectangle.specs.Rectangles.{rectangle_of}
 use Rattle.rectangle.proofs.RectangleLaws.{found_rectangle}
 use Rattle.rectangle.proofs.find_rectangle.Goals as goal

@@ -1,4 +1,3 @@
-use borrow.Author.Rules.{rules}
 use borrow.Author.Tests.{eq-eqb, ne_eqb}
 use Rattle.rectangle.specs.Rectangles.{found_in}
 use Rattle.rectangle.proofs.found_in.Goals as goal

@@ -1,4 +1,3 @@
-use borrow.Author.Rules.{rules}
 use Rattle.rectangle.specs.Rectangles.{by_type}
 use Rattle.rectangle.proofs.in_part.Goals as goal
 

@@ -1,4 +1,3 @@
-use borrow.Author.Rules.{rules}
 use Rattle.rectangle.proofs.short_found.Goals as goal
 
 pub returns-in-Within : goal.returns-in-Within

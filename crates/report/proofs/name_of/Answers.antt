@@ -1,4 +1,3 @@
-use borrow.Author.Rules.{rules}
 use Rattle.report.proofs.name_of.Goals as goal
 
 pub returns-in-Edg : goal.returns-in-Edg

@@ -1,5 +1,4 @@
 -- `report::put_named` meets its contract: a text and a number behind it are one piece.
-use borrow.Author.Rules.{rules}
 use Rattle.report.specs.Text.{decimal}
 use Rattle.report.proofs.NumberWritten.{named}
 use Rattle.report.proofs.put_named.Goals as goal

@@ -1,10 +1,10 @@
 -- `report::put_text` meets its contract: what is left to store gives the whole: byte i goes to place `at + i`.
 use Rattle.laws.proofs.PieceLaws.{sets_next, sets_end}
 use lib.Seq.{sets}
-use lib.ListN.{length, drop, length-set}
+use lib.ListN.{length-set}
 use native.Mathlib.Omega.{arith}
 use mathlib.Core.Path.{◌≡◌, refl, sym, ap, ◌∙◌}
-use Prim.Native.Nat.{ℕ, ◌+◌, ◌-◌, ◌≤◌}
+use Prim.Native.Nat.{ℕ, ◌+◌, ◌-◌}
 use borrow.Author.Rules.{rules}
 use Rattle.report.proofs.put_text.Goals as goal
 

@@ -4,7 +4,6 @@ use Rattle.table.proofs.PlanLaws.{bound_by_lem}
 use native.Mathlib.Omega.{arith}
 use Prim.Native.Nat.{min}
 use mathlib.Core.Path.{◌≡◌, ap, ◌∙◌}
-use borrow.Author.Rules.{rules}
 use Rattle.table.proofs.bound_of.Goals as goal
 
 pub returns : goal.returns

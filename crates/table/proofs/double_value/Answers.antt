@@ -1,4 +1,3 @@
-use borrow.Author.Rules.{rules}
 use Rattle.table.proofs.double_value.Goals as goal
 
 pub returns-then-is_null : goal.returns-then-is_null

@@ -1,6 +1,5 @@
 use native.Mathlib.Omega.{arith}
 use Rattle.table.proofs.FieldLaws.{elements_room}
-use borrow.Author.Rules.{rules}
 use Rattle.table.proofs.elements_bytes.Goals as goal
 
 pub overflow_mul-result : goal.overflow_mul-result

@@ -1,5 +1,4 @@
 use native.Mathlib.Omega.{arith}
-use borrow.Author.Rules.{rules}
 use Rattle.table.proofs.elements_start.Goals as goal
 
 pub returns-then-end-place-lt4 : goal.returns-then-end-place-lt4

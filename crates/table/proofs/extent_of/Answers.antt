@@ -1,6 +1,5 @@
 use Rattle.table.specs.Values.{extent_of}
 use mathlib.Core.Path.{sym, ap}
-use borrow.Author.Rules.{rules}
 use Rattle.table.proofs.extent_of.Goals as goal
 
 pub returns-in-Text : goal.returns-in-Text

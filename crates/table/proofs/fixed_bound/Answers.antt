@@ -1,6 +1,5 @@
 use native.Mathlib.Omega.{arith}
 use Rattle.table.proofs.FieldLaws.{rows_room}
-use borrow.Author.Rules.{rules}
 use Rattle.table.proofs.fixed_bound.Goals as goal
 
 pub overflow_mul-result : goal.overflow_mul-result

@@ -1,7 +1,6 @@
 use borrow.Author.Rules.{sfits_of}
 use mir.Syntax.{w32}
 use mir.Facts.{to_z-of_z}
-use borrow.Author.Rules.{rules}
 use Rattle.table.proofs.integer_value.Goals as goal
 
 pub returns-then-is_null : goal.returns-then-is_null

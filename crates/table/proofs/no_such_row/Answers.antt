@@ -1,4 +1,3 @@
-use borrow.Author.Rules.{rules}
 use Rattle.table.proofs.no_such_row.Goals as goal
 
 pub returns : goal.returns

@@ -1,6 +1,5 @@
 use native.Mathlib.Omega.{arith}
 use Rattle.laws.proofs.PlaceLaws.{part_beyond, part_cut, part_whole}
-use borrow.Author.Rules.{rules}
 use Rattle.table.proofs.part.Goals as goal
 
 pub returns-then-file-start : goal.returns-then-file-start

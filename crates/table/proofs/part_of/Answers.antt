@@ -1,5 +1,4 @@
 use Rattle.table.specs.Values.{part_of}
-use borrow.Author.Rules.{rules}
 use Rattle.table.proofs.part_of.Goals as goal
 
 pub returns : goal.returns

@@ -1,4 +1,3 @@
-use borrow.Author.Rules.{rules}
 use borrow.Author.Tests.{le-leb, lt-leb}
 use Rattle.table.specs.Rows.{plain_end}
 use Rattle.table.proofs.plain_end.Goals as goal

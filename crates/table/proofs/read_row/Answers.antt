@@ -1,4 +1,3 @@
-use borrow.Author.Rules.{rules}
 use borrow.Author.Tests.{eq-eqb, ne_eqb}
 use mathlib.Core.Path.{◌≡◌, sym}
 use Prim.Native.Nat.{◌≤◌, ◌<◌}
@@ -30,10 +29,10 @@ pub bound_of-end-requires : goal.bound_of-end-requires
 bound_of-end-requires c = (there (goal.at.bound_of-end-requires c).Else-no_such_row).1
 
 -- the row that is said is the one judged, between the two places
-judged-so : (c : After-judge_row-judged) → row_of c.args.file.now c.args.index.now c.args.table c.args.row
+judged_so : (c : After-judge_row-judged) → row_of c.args.file.now c.args.index.now c.args.table c.args.row
     ≡ unless_refused c.judge_row-judged.result c.bound_of-start.result c.bound_of-end.result
 unfolding row_of
-judged-so c =
+judged_so c =
     simp (
       sym (sub-one c.args.row),
       ← c.bound_of-start.ensures,
@@ -44,7 +43,7 @@ judged-so c =
     )
 
 pub returns-then-judged-eq0 : goal.returns-then-judged-eq0
-returns-then-judged-eq0 c = rw (judged-so (goal.at.returns-then-judged-eq0 c).After-judge_row-judged, eq-eqb _ _ c.if-judged-eq0.true)
+returns-then-judged-eq0 c = rw (judged_so (goal.at.returns-then-judged-eq0 c).After-judge_row-judged, eq-eqb _ _ c.if-judged-eq0.true)
 
 pub returns : goal.returns
-returns c = rw (judged-so (goal.at.returns c).After-judge_row-judged, ne_eqb _ _ c.if-judged-eq0.false)
+returns c = rw (judged_so (goal.at.returns c).After-judge_row-judged, ne_eqb _ _ c.if-judged-eq0.false)

@@ -7,7 +7,6 @@ use Rattle.limits.specs.Limits.{most_rows}
 use Rattle.table.specs.Values.{value_of}
 use Rattle.table.specs.Rows.{row_of, no_such_column}
 use Rattle.table.proofs.RowLaws.{row_there}
-use borrow.Author.Rules.{rules}
 use Rattle.table.proofs.read_value.Goals as goal
 use Rattle.table.proofs.read_value.Goals.{Else-no_such}
 
@@ -32,8 +31,8 @@ row_is : (c : Else-no_such) → (0 < c.args.row) × (c.args.row ≤ most_rows)
 row_is c =
     let h = row_there c.args.table c.args.row _ c.no_such_row.ensures c.if-no_such_row.false in (h.1, h.2)
 
-column-is : (c : Else-no_such) → no_such_column c.args.table.layout c.args.column ≡ false
-column-is c = rw (← c.count_columns.ensures, ← c.no_such.ensures) c.if-no_such.false
+column_is : (c : Else-no_such) → no_such_column c.args.table.layout c.args.column ≡ false
+column_is c = rw (← c.count_columns.ensures, ← c.no_such.ensures) c.if-no_such.false
 
 pub overflow_sub-row : goal.overflow_sub-row
 overflow_sub-row c = omega (arith, (row_is c).0)
@@ -45,7 +44,7 @@ pub bound_of-end-requires : goal.bound_of-end-requires
 bound_of-end-requires c = (row_is (goal.at.bound_of-end-requires c).Else-no_such).1
 
 pub value_between-requires : goal.value_between-requires
-value_between-requires c = column-is (goal.at.value_between-requires c).Else-no_such
+value_between-requires c = column_is (goal.at.value_between-requires c).Else-no_such
 
 pub returns : goal.returns
 unfolding value_of row_of
@@ -54,7 +53,7 @@ returns c =
       sym (sub-one c.args.row),
       ← c.bound_of-start.ensures,
       ← c.bound_of-end.ensures,
-      column-is (goal.at.returns c).Else-no_such,
+      column_is (goal.at.returns c).Else-no_such,
       c.if-no_such_row.false,
       ← c.no_such_row.ensures,
     )

@@ -1,4 +1,3 @@
-use borrow.Author.Rules.{rules}
 use Rattle.table.specs.Values.{shown}
 use Rattle.table.proofs.show.Goals as goal
 

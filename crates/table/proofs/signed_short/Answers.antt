@@ -2,7 +2,6 @@ use mir.Syntax.{w16}
 use native.Mathlib.Omega.{arith}
 use Prim.Native.Nat.{◌-◌}
 use Rattle.table.proofs.SignedLaws.{below_fits, upper_half}
-use borrow.Author.Rules.{rules}
 use Rattle.table.proofs.signed_short.Goals as goal
 
 pub overflow_sub-result-2 : goal.overflow_sub-result-2

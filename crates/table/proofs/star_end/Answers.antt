@@ -1,6 +1,5 @@
 use native.Mathlib.Omega.{arith}
 use Rattle.table.proofs.FieldLaws.{elements_room}
-use borrow.Author.Rules.{rules}
 use borrow.Author.Tests.{le-ltb, lt-ltb}
 use Rattle.table.specs.Rows.{star_end}
 use Rattle.table.proofs.star_end.Goals as goal

@@ -1,6 +1,5 @@
 use native.Mathlib.Omega.{arith}
 use Rattle.table.proofs.FieldLaws.{triplet_room}
-use borrow.Author.Rules.{rules}
 use mathlib.Core.Path.{◌∙◌, sym}
 use Rattle.table.specs.Rows.{triplet_end}
 use Rattle.table.proofs.triplet_end.Goals as goal

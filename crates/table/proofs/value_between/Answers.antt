@@ -1,4 +1,3 @@
-use borrow.Author.Rules.{rules}
 use mathlib.Core.Path.{◌≡◌, refl, sym, ap, ◌∙◌}
 use Prim.Native.Nat.{pred, ◌-◌, ◌≤◌, ◌<◌}
 use native.Mathlib.Numerals.{sub-one}
@@ -18,31 +17,34 @@ returns-then-judged-ne0 c =
     refused_in_row _ _ c.args.start c.args.end _ c.judge_row-judged.ensures.value c.if-judged-ne0.true
 
 -- the column has a place in the layout
-column-at : (c : Else-judged-ne0) → (0 < c.args.column) × (c.args.column ≤ most_columns)
-column-at c = column_there c.args.layout c.args.column c.requires
+column_at : (c : Else-judged-ne0) → (0 < c.args.column) × (c.args.column ≤ most_columns)
+column_at c = column_there c.args.layout c.args.column c.requires
 
 -- the row passed the judgement
 passed : (c : Else-judged-ne0) → (row_refusal c.args.file.now c.args.layout c.args.start c.args.end c.args.row).number ≡ 0
 passed c = sym (ap (λ (q : Refusal). q.number) c.judge_row-judged.ensures.value) ∙ c.if-judged-ne0.false
 
 -- and has found where the column starts
-placed : (c : After-column_place-place) → c.column_place-place.result ≡ column_place c.args.file.now c.args.layout c.args.start c.args.end c.args.column
+placed : (c : After-column_place-place) → c.column_place-place.result
+    ≡ column_place c.args.file.now c.args.layout c.args.start c.args.end c.args.column
 placed c =
-    let q : pred c.args.column ≡ c.args.column - 1 = omega (arith, ((let it : (0 < c.args.column) × (c.args.column ≤ most_columns) = column_there c.args.layout c.args.column c.requires in it)).0) in
-    judged_place c.args.file.now c.args.layout c.args.start c.args.end c.args.row ((let it : (row_refusal c.args.file.now c.args.layout c.args.start c.args.end c.args.row).number ≡ 0 = sym (ap (λ (q : Refusal). q.number) c.judge_row-judged.ensures.value) ∙ c.if-judged-ne0.false in it)) c.args.column _ _ _ _ c.requires refl (rw q)
-    c.judge_row-judged.ensures.places_after c.column_place-place.ensures
+    let there = column_there c.args.layout c.args.column c.requires in
+    let q : pred c.args.column ≡ c.args.column - 1 = omega (arith, there.0) in
+    judged_place c.args.file.now c.args.layout c.args.start c.args.end c.args.row
+    (sym (ap (λ (r : Refusal). r.number) c.judge_row-judged.ensures.value) ∙ c.if-judged-ne0.false) c.args.column _ _ _ _ c.requires refl
+    (rw q) c.judge_row-judged.ensures.places_after c.column_place-place.ensures
 
 pub overflow_sub-c : goal.overflow_sub-c
-overflow_sub-c c = omega (arith, (column-at c).0)
+overflow_sub-c c = omega (arith, (column_at c).0)
 
 pub offset_bounds-layout-column : goal.offset_bounds-layout-column
-offset_bounds-layout-column c = omega (arith, (column-at c).0, (column-at c).1)
+offset_bounds-layout-column c = omega (arith, (column_at c).0, (column_at c).1)
 
 pub bounds-layout-column : goal.bounds-layout-column
-bounds-layout-column c = omega (arith, (column-at c).0, (column-at c).1)
+bounds-layout-column c = omega (arith, (column_at c).0, (column_at c).1)
 
 pub column_place-place-requires : goal.column_place-place-requires
-column_place-place-requires c = column-at (goal.at.column_place-place-requires c).Else-judged-ne0
+column_place-place-requires c = column_at (goal.at.column_place-place-requires c).Else-judged-ne0
 
 pub show-requires : goal.show-requires
 show-requires c =

@@ -1,4 +1,3 @@
-use borrow.Author.Rules.{rules}
 use borrow.Author.Tests.{eq-eqb, ne_eqb}
 use Rattle.taken.specs.Numbers.{number_by}
 use Rattle.taken.proofs.number_by.Goals as goal

@@ -2,7 +2,6 @@ use mathlib.Core.Path.{◌≡◌}
 use Prim.Native.Nat.{◌-◌}
 use native.Mathlib.Omega.{arith}
 use Rattle.laws.proofs.PlaceLaws.{part_beyond, part_cut}
-use borrow.Author.Rules.{rules}
 use Rattle.taken.proofs.row_from.Goals as goal
 
 pub returns-then-end-place : goal.returns-then-end-place

@@ -1,5 +1,4 @@
 -- `teller::add_ring` meets its contract: the line is told into the part of the text that starts at the place.
-use borrow.Author.Rules.{rules}
 use Rattle.report.specs.Lines.{ring_line}
 use Rattle.report.proofs.LineFits.{ring_fits}
 use Rattle.teller.proofs.TextLaws.{told_bytes, told_part}

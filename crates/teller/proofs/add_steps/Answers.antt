@@ -1,5 +1,4 @@
 -- `teller::add_steps` meets its contract: the line is told into the part of the text that starts at the place.
-use borrow.Author.Rules.{rules}
 use Rattle.report.specs.Lines.{steps_line}
 use Rattle.report.proofs.LineFits.{steps_fits}
 use Rattle.teller.proofs.TextLaws.{told_bytes, told_part}

@@ -1,6 +1,5 @@
 -- `teller::tell_loaded` meets its contract: the lines of a tile that the check accepts, or its refusal.
-use borrow.Author.Rules.{rules}
-use mathlib.Core.Path.{◌≡◌, sym, ◌∙◌}
+use mathlib.Core.Path.{sym, ◌∙◌}
 use native.Mathlib.Omega.{arith}
 use Rattle.load.specs.Columns.{columns}
 use Rattle.teller.proofs.TextLaws.{columns_long, told_checked, checked_lines, checked_refusal}

@@ -1,16 +1,14 @@
 -- `teller::tell_rings` meets its contract: before each turn the text has the lines of the ring rows passed, and `all` is the sum of their steps.
 use borrow.Author.Rules.{rules}
-use Prim.Native.Nat.{◌≤◌, ◌+◌, ◌*◌, ◌-◌}
+use Prim.Native.Nat.{◌≤◌, ◌+◌, ◌-◌}
 use mathlib.Core.Path.{◌≡◌, refl, ◌∙◌}
 use native.Mathlib.Omega.{arith}
 use lib.ListN.{length}
-use lib.Seq.{sets}
 use Rattle.report.proofs.LineFits.{accept_fits}
 use Rattle.report.specs.Lines.{line_room, accept_line}
 use Rattle.load.specs.Columns.{Columns, columns}
 use Rattle.directory.specs.Columns.{held}
 use Rattle.tile.specs.Columns.{Tile}
-use Rattle.tile.specs.Walk.{all_steps}
 use Rattle.directory.proofs.StepLaws.{steps_next, steps_few}
 use Rattle.limits.specs.Limits.{program_sides}
 use Rattle.teller.specs.Text.{ring_lines}
@@ -27,26 +25,27 @@ lent c =
     columns c.args.start_node.now c.args.end_node.now c.args.right_face.now c.args.left_face.now c.args.right_edge.now c.args.left_edge.now
     c.args.ring_ptr.now c.args.fac_id.now c.args.start_edge.now c.args.first_edge.now
 
-abbrev tile-of : At-loop-i → Tile
-tile-of c = held c.args.counts (lent c)
+abbrev tile_of : At-loop-i → Tile
+tile_of c = held c.args.counts (lent c)
 
 -- before each turn, and after the last: the first line is its own text, the text is as long as it was, and has room for one more line
-first-line : (c : At-loop-i) → c.accept_line-at.result ≡ length (accept_line c.args.counts)
-first-line c =
+first_line : (c : At-loop-i) → c.accept_line-at.result ≡ length (accept_line c.args.counts)
+first_line c =
     accept_bytes c.args.counts c.args.text.now c.requires.text_space_in_bounds.0 _ c.accept_line-at.ensures.value
 
-same-space : (c : At-loop-i) → length c.loop-i.text ≡ length c.args.text.now
-same-space c =
-    same_room c.args.counts c.args.text.now c.requires.text_space_in_bounds.0 _ c.loop-i.text (ring_lines (tile-of c) c.loop-i.i)
+same_space : (c : At-loop-i) → length c.loop-i.text ≡ length c.args.text.now
+same_space c =
+    same_room c.args.counts c.args.text.now c.requires.text_space_in_bounds.0 _ c.loop-i.text (ring_lines (tile_of c) c.loop-i.i)
     c.accept_line-at.result c.accept_line-at.ensures.out_after c.loop-i.invariant.5
 
 room : (c : At-loop-i) → c.loop-i.at + line_room ≤ length c.loop-i.text
 room c =
     omega (
       arith,
-      room_left c.args.counts (lent c) c.requires.program_sides_value c.requires.text_space_in_bounds.1 c.requires.text_space_in_bounds.2 c.loop-i.i c.accept_line-at.result c.loop-i.at c.loop-i.invariant.0
-          (omega (arith, first-line c, accept_fits c.args.counts)) c.loop-i.invariant.4,
-      same-space c,
+      room_left c.args.counts (lent c) c.requires.program_sides_value c.requires.text_space_in_bounds.1 c.requires.text_space_in_bounds.2 c.loop-i.i
+          c.accept_line-at.result c.loop-i.at c.loop-i.invariant.0
+          (omega (arith, first_line c, accept_fits c.args.counts)) c.loop-i.invariant.4,
+      same_space c,
       c.requires.text_space_in_bounds.0,
     )
 
@@ -66,7 +65,7 @@ overflow_add-all c =
 
 pub loop-i-preserved : goal.loop-i-preserved
 loop-i-preserved c =
-    let t = tile-of (goal.at.loop-i-preserved c).At-loop-i in
+    let t = tile_of (goal.at.loop-i-preserved c).At-loop-i in
     let face = c.row.ensures ∙ ring_face c.args.counts (lent (goal.at.loop-i-preserved c).At-loop-i) c.requires.program_sides_value (c.loop-i.i + 1) (omega arith, omega arith) in
     let more = ring_added t _ _ _ _ _ _ c.loop-i.i (c.loop-i.i + 1) _ _ _ _ refl face c.walk_ring.ensures.value c.loop-i.invariant.1
     c.steps_of-steps.ensures c.loop-i.invariant.4 c.loop-i.invariant.5
@@ -85,7 +84,7 @@ add_steps-requires c = room (goal.at.add_steps-requires c).At-loop-i
 
 pub shape_of-text : goal.shape_of-text
 shape_of-text c =
-    c.add_steps.auto.text ∙ same-space (goal.at.shape_of-text c).At-loop-i
+    c.add_steps.auto.text ∙ same_space (goal.at.shape_of-text c).At-loop-i
 
 pub returns : goal.returns
 returns c =
@@ -93,7 +92,7 @@ returns c =
     let p = c.requires in
     let at-loop = (goal.at.returns c).At-loop-i in
     let all = text_whole c.args.counts (lent at-loop) p.program_sides_value p.text_space_in_bounds.1 p.text_space_in_bounds.2
-    c.args.text.now _ _ _ _ _ _ c.loop-i.all p.text_space_in_bounds.0 (first-line at-loop)
+    c.args.text.now _ _ _ _ _ _ c.loop-i.all p.text_space_in_bounds.0 (first_line at-loop)
     (accept_told c.args.counts c.args.text.now p.text_space_in_bounds.0 _ c.accept_line-at.ensures.out_after)
     (rw end at c.loop-i.invariant.4) (rw end at c.loop-i.invariant.5) c.add_steps.ensures.value
     c.add_steps.ensures.text_after (rw end at c.loop-i.invariant.2) in

@@ -1,19 +1,12 @@
-use borrow.Author.Rules.{rules}
 use Prim.Native.Nat.{◌≤◌, ◌+◌, ◌*◌, ◌-◌}
-use mathlib.Core.Path.{◌≡◌, refl, ◌∙◌}
-use native.Mathlib.Omega.{arith}
+use mathlib.Core.Path.{◌≡◌}
 use lib.ListN.{length}
 use lib.Seq.{sets}
-use Rattle.report.proofs.LineFits.{accept_fits}
-use Rattle.report.specs.Lines.{line_room, accept_line}
-use Rattle.load.specs.Columns.{Columns, columns}
+use Rattle.load.specs.Columns.{columns}
 use Rattle.directory.specs.Columns.{held}
-use Rattle.tile.specs.Columns.{Tile}
 use Rattle.tile.specs.Walk.{all_steps}
-use Rattle.directory.proofs.StepLaws.{steps_next, steps_few}
 use Rattle.limits.specs.Limits.{program_sides}
 use Rattle.teller.specs.Text.{ring_lines}
-use Rattle.teller.proofs.TextLaws.{accept_bytes, accept_told, same_room, ring_face, ring_added, room_left, text_whole}
 use Rattle.teller.proofs.tell_rings.Given as goal
 
 abbrev pub invariant-loop-i : goal.invariant-loop-i

@@ -1,7 +1,6 @@
 -- `teller::tell_tile` meets its contract: what is told of the tile in its own columns is the directory's text.
 use native.Mathlib.Omega.{arith}
-use borrow.Author.Rules.{rules}
-use mathlib.Core.Path.{◌≡◌, sym, ◌∙◌}
+use mathlib.Core.Path.{sym, ◌∙◌}
 use Rattle.directory.specs.Files.{directory}
 use Rattle.teller.proofs.TextLaws.{directory_lines, directory-refusal}
 use Rattle.teller.proofs.tell_tile.Goals as goal

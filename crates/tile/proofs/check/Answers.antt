@@ -7,7 +7,6 @@ use Rattle.tile.specs.Columns.{Tile, tile}
 use Rattle.tile.specs.Check.{sizes_wrong}
 use Rattle.tile.proofs.SizeLaws.{rows_within}
 use Rattle.tile.proofs.JudgeLaws.{wrong_sizes, no_space, accepted, refused}
-use borrow.Author.Rules.{rules}
 use Rattle.tile.proofs.check.Goals as goal
 use Rattle.tile.proofs.check.Goals.{Else-sizes_wrong, Start}
 
@@ -37,8 +36,10 @@ overflow_mul-n c = omega (arith, (rows_within (whole (goal.at.overflow_mul-n c).
 pub returns-then-marks-n : goal.returns-then-marks-n
 returns-then-marks-n c =
     record {
-      value = (no_space (whole (goal.at.returns-then-marks-n c).Start) c.args.marks.now (sized (goal.at.returns-then-marks-n c).Else-sizes_wrong) c.refuse-then-marks-n.result c.refuse-then-marks-n.ensures c.if-marks-n.true).0;
-      marks_after = (no_space (whole (goal.at.returns-then-marks-n c).Start) c.args.marks.now (sized (goal.at.returns-then-marks-n c).Else-sizes_wrong) c.refuse-then-marks-n.result c.refuse-then-marks-n.ensures c.if-marks-n.true).1;
+      value = (no_space (whole (goal.at.returns-then-marks-n c).Start) c.args.marks.now (sized (goal.at.returns-then-marks-n c).Else-sizes_wrong)
+          c.refuse-then-marks-n.result c.refuse-then-marks-n.ensures c.if-marks-n.true).0;
+      marks_after = (no_space (whole (goal.at.returns-then-marks-n c).Start) c.args.marks.now (sized
+          (goal.at.returns-then-marks-n c).Else-sizes_wrong) c.refuse-then-marks-n.result c.refuse-then-marks-n.ensures c.if-marks-n.true).1;
     }
 
 pub judge-q-requires : goal.judge-q-requires
@@ -52,7 +53,8 @@ returns-then-q-ne0 c =
     record {
       value = (refused (whole (goal.at.returns-then-q-ne0 c).Start) c.args.marks.now (sized (goal.at.returns-then-q-ne0 c).Else-sizes_wrong) c.if-marks-n.false c.judge-q.result c.judge-q.ensures.value
           c.if-q-ne0.true c.judge-q.new.marks c.judge-q.ensures.marks_after).0;
-      marks_after = (refused (whole (goal.at.returns-then-q-ne0 c).Start) c.args.marks.now (sized (goal.at.returns-then-q-ne0 c).Else-sizes_wrong) c.if-marks-n.false c.judge-q.result c.judge-q.ensures.value
+      marks_after = (refused (whole (goal.at.returns-then-q-ne0 c).Start) c.args.marks.now (sized (goal.at.returns-then-q-ne0 c).Else-sizes_wrong)
+          c.if-marks-n.false c.judge-q.result c.judge-q.ensures.value
           c.if-q-ne0.true c.judge-q.new.marks c.judge-q.ensures.marks_after).1;
     }
 

@@ -2,18 +2,17 @@
 use mathlib.Core.Path.{◌≡◌, sym, ap, ◌∙◌}
 use mathlib.Core.List.{List}
 use native.Mathlib.Omega.{arith}
-use Prim.Native.Nat.{ℕ, ◌*◌, ◌≤◌}
-use lib.ListN.{length}
+use Prim.Native.Nat.{ℕ}
 use Rattle.laws.specs.Buffer.{front}
 use Rattle.laws.specs.Orbit.{first_doubled}
 use Rattle.laws.specs.Marks.{zeros, count}
 use Rattle.laws.proofs.MarkLaws.{over_front}
 use Rattle.refusal.proofs.OrderLaws.{located_passes}
 use Rattle.refusal.specs.declared.Refusal.{Refusal}
-use Rattle.refusal.specs.Order.{located, first_of}
+use Rattle.refusal.specs.Order.{located}
 use Rattle.side.specs.Successor.{after}
 use Rattle.side.specs.Edges.{edges}
-use Rattle.tile.specs.Serving.Stages.{edge_tests, tallied, owners_painted}
+use Rattle.tile.specs.Serving.Stages.{tallied, owners_painted}
 use Rattle.tile.specs.Columns.{Tile, tile, F, N, sides}
 use Rattle.tile.proofs.SizeLaws.{rows_within, regular}
 use Rattle.tile.proofs.JudgeLaws.{sides-fine, at_edges, at_predecessors, at_rings, at_owners}

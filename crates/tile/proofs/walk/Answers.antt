@@ -6,7 +6,6 @@ use Rattle.tile.specs.Columns.{Tile, tile, E}
 use Rattle.tile.proofs.OwnerLaws.{side_with_within}
 use Rattle.tile.proofs.SizeLaws.{regular}
 use Rattle.tile.proofs.WalkLaws.{walk_sizes, walk_no_row, walk_no_start, walk_empty, walk_on, walk_written}
-use borrow.Author.Rules.{rules}
 use Rattle.tile.proofs.walk.Goals as goal
 use Rattle.tile.proofs.walk.Goals.{Start}
 

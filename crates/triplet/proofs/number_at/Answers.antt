@@ -2,7 +2,6 @@
 use mathlib.Core.Path.{◌≡◌, sym}
 use native.Mathlib.Omega.{arith}
 use Rattle.number.proofs.NumberLaws.{number_nothing}
-use borrow.Author.Rules.{rules}
 use Rattle.triplet.proofs.number_at.Goals as goal
 
 pub returns-then-w-eq0 : goal.returns-then-w-eq0

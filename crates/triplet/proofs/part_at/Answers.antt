@@ -1,5 +1,4 @@
 -- `triplet::part_at` meets its contract: each answer is the branch of `part_at` with the tests that led to it.
-use borrow.Author.Rules.{rules}
 use borrow.Author.Tests.{eq-eqb, le-ltb, lt-ltb, ne_eqb}
 use Rattle.triplet.specs.Triplet.{part_at}
 use Rattle.triplet.proofs.part_at.Goals as goal

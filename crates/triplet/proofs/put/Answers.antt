@@ -4,7 +4,6 @@ use native.Mathlib.Omega.{arith}
 use mathlib.Core.Path.{◌∙◌}
 use Rattle.triplet.specs.Written.{size_of}
 use Rattle.triplet.proofs.WriterLaws.{encoded_by}
-use borrow.Author.Rules.{rules}
 use Rattle.triplet.proofs.put.Goals as goal
 
 pub bounds-s-0 : goal.bounds-s-0

@@ -1,6 +1,5 @@
 -- `triplet::put_part` meets its contract: each width is written by the function of that width, and an absent part writes nothing.
 use Rattle.number.proofs.NumberLaws.{written_nothing}
-use borrow.Author.Rules.{rules}
 use borrow.Author.Tests.{eq-eqb, le-ltb, lt-ltb, ne_eqb}
 use Rattle.triplet.specs.Written.{width_for}
 use Rattle.triplet.proofs.put_part.Goals as goal

@@ -1,5 +1,4 @@
 -- `triplet::read` meets its contract: each answer is the branch of `triplet_of` with the tests that led to it.
-use borrow.Author.Rules.{rules}
 use borrow.Author.Tests.{eq-eqb, ne_eqb}
 use Rattle.triplet.specs.Triplet.{triplet_of}
 use Rattle.triplet.proofs.read.Goals as goal

@@ -1,5 +1,4 @@
 -- `triplet::read_parts` meets its contract: the parts are read one after the other as `parts_of` has them.
-use borrow.Author.Rules.{rules}
 use mathlib.Core.Path.{◌∙◌, sym}
 use Rattle.triplet.specs.Triplet.{parts_of}
 use Rattle.triplet.proofs.read_parts.Goals as goal

@@ -1,5 +1,4 @@
 use mathlib.Core.Path.{◌∙◌}
-use borrow.Author.Rules.{rules}
 use Rattle.abi.proofs.columns.plain_column.Goals as goal
 
 pub returns-in-Column : goal.returns-in-Column

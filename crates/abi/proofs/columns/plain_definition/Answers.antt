@@ -1,4 +1,3 @@
-use borrow.Author.Rules.{rules}
 use Rattle.abi.proofs.columns.plain_definition.Goals as goal
 
 pub returns : goal.returns

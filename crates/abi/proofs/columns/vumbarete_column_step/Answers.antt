@@ -1,5 +1,4 @@
 use mathlib.Core.Path.{ap, ◌∙◌}
-use borrow.Author.Rules.{rules}
 use Rattle.abi.specs.PlainColumns.{plain_column}
 use Rattle.abi.proofs.columns.vumbarete_column_step.Goals as goal
 

@@ -1,4 +1,3 @@
-use borrow.Author.Rules.{rules}
 use Rattle.abi.proofs.loads.plain_loaded.Goals as goal
 
 pub returns-in-Tile : goal.returns-in-Tile

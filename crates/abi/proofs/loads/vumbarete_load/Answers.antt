@@ -1,7 +1,6 @@
 -- the ten columns are left as the load left them: its answer is the one that is told
 use mathlib.Core.Path.{ap, ◌∙◌}
 use Rattle.abi.specs.PlainLoads.{plain_loaded}
-use borrow.Author.Rules.{rules}
 use Rattle.load.specs.declared.Loaded.{Loaded}
 use Rattle.load.specs.Sources.{files}
 use Rattle.load.specs.Columns.{columns}

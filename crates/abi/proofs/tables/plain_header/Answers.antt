@@ -1,4 +1,3 @@
-use borrow.Author.Rules.{rules}
 use Rattle.abi.proofs.tables.plain_header.Goals as goal
 
 pub returns-in-Accepted : goal.returns-in-Accepted

@@ -1,4 +1,3 @@
-use borrow.Author.Rules.{rules}
 use Rattle.abi.proofs.tables.plain_rectangle.Goals as goal
 
 pub returns-in-Short : goal.returns-in-Short

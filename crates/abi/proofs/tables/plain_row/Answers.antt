@@ -1,4 +1,3 @@
-use borrow.Author.Rules.{rules}
 use Rattle.abi.proofs.tables.plain_row.Goals as goal
 
 pub returns-in-Between : goal.returns-in-Between

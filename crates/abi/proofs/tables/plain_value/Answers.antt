@@ -1,6 +1,3 @@
-use mir.Syntax.{w16, w32}
-use mir.Facts.{to_z-of_z}
-use borrow.Author.Rules.{rules, sfits_of}
 use Rattle.abi.proofs.tables.plain_value.Goals as goal
 
 pub returns-in-ShortNull : goal.returns-in-ShortNull

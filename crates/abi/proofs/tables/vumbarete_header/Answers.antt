@@ -1,4 +1,3 @@
-use borrow.Author.Rules.{rules}
 use Rattle.abi.proofs.tables.vumbarete_header.Goals as goal
 
 pub returns : goal.returns

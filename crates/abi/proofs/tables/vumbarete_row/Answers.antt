@@ -1,4 +1,3 @@
-use borrow.Author.Rules.{rules}
 use Rattle.abi.specs.PlainTables.{row_in}
 use Rattle.abi.proofs.tables.vumbarete_row.Goals as goal
 

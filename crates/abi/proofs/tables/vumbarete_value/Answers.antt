@@ -1,4 +1,3 @@
-use borrow.Author.Rules.{rules}
 use Rattle.abi.specs.PlainTables.{value_in}
 use Rattle.abi.proofs.tables.vumbarete_value.Goals as goal
 

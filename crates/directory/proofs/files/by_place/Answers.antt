@@ -1,6 +1,5 @@
 -- `directory::files::by_place` meets its contract.
 use mathlib.Core.Path.{sym, ◌∙◌}
-use borrow.Author.Rules.{rules}
 use Rattle.directory.proofs.files.by_place.Goals as goal
 
 pub returns-then-is_ring_row : goal.returns-then-is_ring_row

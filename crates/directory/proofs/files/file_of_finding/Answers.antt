@@ -1,5 +1,4 @@
 -- `directory::files::file_of_finding` meets its contract: an index refusal is the index file's, every other the table's.
-use borrow.Author.Rules.{rules}
 use borrow.Author.Tests.{eq-eqb, ne_eqb}
 use Rattle.directory.specs.Concerned.{file_of_finding}
 use Rattle.directory.proofs.files.file_of_finding.Goals as goal

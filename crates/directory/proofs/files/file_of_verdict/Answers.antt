@@ -1,5 +1,4 @@
 -- `directory::files::file_of_verdict` meets its contract: each number has the file that the definition gives it.
-use borrow.Author.Rules.{rules}
 use borrow.Author.Tests.{eq-eqb, ne_eqb}
 use Rattle.directory.specs.Concerned.{file_of_verdict}
 use Rattle.directory.proofs.files.file_of_verdict.Goals as goal

@@ -1,12 +1,6 @@
-use Rattle.directory.specs.Files.{triplet_column, has_triplet}
-use Rattle.table.specs.Rows.{columns_of}
-use Rattle.laws.proofs.LowestLaws.{none_start, none_next, lowest_found, lowest_nothing}
+use Rattle.directory.specs.Files.{triplet_column}
 use Rattle.laws.specs.Lowest.{None}
-use native.Mathlib.Omega.{arith}
-use Prim.Native.Nat.{suc, ◌-◌, ◌≤◌}
-use mathlib.Core.Path.{◌≡◌, sym, ◌∙◌}
-use borrow.Author.Tests.{lt-ltb}
-use borrow.Author.Rules.{rules}
+use Prim.Native.Nat.{◌-◌, ◌≤◌}
 use Rattle.directory.proofs.files.has_triplet.Given as goal
 
 abbrev pub invariant-loop-k : goal.invariant-loop-k

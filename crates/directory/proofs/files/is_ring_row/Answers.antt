@@ -1,6 +1,5 @@
 -- `directory::files::is_ring_row` meets its contract: the place is tested to be a ring row before its face is read.
 use mathlib.Core.Path.{sym, ◌∙◌}
-use borrow.Author.Rules.{rules}
 use Rattle.directory.proofs.files.is_ring_row.Goals as goal
 
 pub returns-then-is_outside : goal.returns-then-is_outside

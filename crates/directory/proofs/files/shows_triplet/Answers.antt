@@ -1,5 +1,4 @@
 -- `directory::files::shows_triplet` meets its contract: the layout of the header that was read, blank where the header is refused.
-use borrow.Author.Rules.{rules}
 use Rattle.directory.specs.Files.{shows_triplet}
 use Rattle.directory.proofs.files.shows_triplet.Goals as goal
 

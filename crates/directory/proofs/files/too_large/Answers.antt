@@ -31,13 +31,25 @@ returns-then-sizes-gt-MOST_BYTES-4 c =
 pub returns-then-sizes-gt-MOST_BYTES-5 : goal.returns-then-sizes-gt-MOST_BYTES-5
 unfolding too_large
 returns-then-sizes-gt-MOST_BYTES-5 c =
-    simp (lt-ltb _ _ c.if-sizes-gt-MOST_BYTES-5.true, le-ltb _ _ c.if-sizes-gt-MOST_BYTES-4.false, le-ltb _ _ c.if-sizes-gt-MOST_BYTES-3.false, le-ltb _ _ c.if-sizes-gt-MOST_BYTES-2.false, le-ltb _ _ c.if-sizes-gt-MOST_BYTES.false)
+    simp (
+      lt-ltb _ _ c.if-sizes-gt-MOST_BYTES-5.true,
+      le-ltb _ _ c.if-sizes-gt-MOST_BYTES-4.false,
+      le-ltb _ _ c.if-sizes-gt-MOST_BYTES-3.false,
+      le-ltb _ _ c.if-sizes-gt-MOST_BYTES-2.false,
+      le-ltb _ _ c.if-sizes-gt-MOST_BYTES.false,
+    )
 
 -- the five files that are always read are not too large
 small : (c : Else-sizes-gt-MOST_BYTES-5) → too_large c.args.sizes c.args.cnx_read ≡ cond c.args.cnx_read (cond (ltb most_bytes c.args.sizes.cnx) (Is Cnx) Nothing) Nothing
 unfolding too_large
 small c =
-    simp (le-ltb _ _ c.if-sizes-gt-MOST_BYTES-5.false, le-ltb _ _ c.if-sizes-gt-MOST_BYTES-4.false, le-ltb _ _ c.if-sizes-gt-MOST_BYTES-3.false, le-ltb _ _ c.if-sizes-gt-MOST_BYTES-2.false, le-ltb _ _ c.if-sizes-gt-MOST_BYTES.false)
+    simp (
+      le-ltb _ _ c.if-sizes-gt-MOST_BYTES-5.false,
+      le-ltb _ _ c.if-sizes-gt-MOST_BYTES-4.false,
+      le-ltb _ _ c.if-sizes-gt-MOST_BYTES-3.false,
+      le-ltb _ _ c.if-sizes-gt-MOST_BYTES-2.false,
+      le-ltb _ _ c.if-sizes-gt-MOST_BYTES.false,
+    )
 
 pub returns-then-sizes-gt-MOST_BYTES-6 : goal.returns-then-sizes-gt-MOST_BYTES-6
 returns-then-sizes-gt-MOST_BYTES-6 c =

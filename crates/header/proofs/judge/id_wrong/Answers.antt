@@ -1,4 +1,3 @@
-use borrow.Author.Rules.{rules}
 use Rattle.header.proofs.GatherLaws.{id_unsound, id_elsewhere}
 use Rattle.header.proofs.judge.id_wrong.Goals as goal
 

@@ -48,8 +48,8 @@ few c =
     found_few c.args.head.now c.args.n (kept_at c) c.columns_within.result
     c.columns_within.ensures c.gather-kept.ensures c.if-kept-ne0.false c.if-n-gt-MOST_COLUMNS.false
 
-names-kept : (c : Else-n-gt-MOST_COLUMNS) → (kept_at c).names ≡ names_of c.args.head.now c.args.n
-names-kept c = kept_names c.args.head.now c.args.n (kept_at c) (few c).0
+names_kept : (c : Else-n-gt-MOST_COLUMNS) → (kept_at c).names ≡ names_of c.args.head.now c.args.n
+names_kept c = kept_names c.args.head.now c.args.n (kept_at c) (few c).0
 
 -- so that the tests of the names are those that are left of the columns'
 joined : (c : Else-n-gt-MOST_COLUMNS) → (f : Judged) → judged (first_of (name_tests c.args.head.now c.args.n)) f ≡ judged (first_of (column_tests c.args.head.now c.args.n)) f
@@ -60,7 +60,7 @@ joined c =
 pub doubled_name-doubled-requires : goal.doubled_name-doubled-requires
 doubled_name-doubled-requires c =
     let past = (goal.at.doubled_name-doubled-requires c).Else-n-gt-MOST_COLUMNS in
-    let n = names-kept past in let long = names_long c.args.head.now c.args.n (kept_at past).names n in record {
+    let n = names_kept past in let long = names_long c.args.head.now c.args.n (kept_at past).names n in record {
       n_le_most_columns = (c.if-n-gt-MOST_COLUMNS.false, long.0, long.1);
       ends_value = n;
     }
@@ -75,7 +75,7 @@ returns-then-doubled-ne0 c =
 pub column_by_name-id-requires : goal.column_by_name-id-requires
 column_by_name-id-requires c =
     let past = (goal.at.column_by_name-id-requires c).Else-n-gt-MOST_COLUMNS in
-    names_long c.args.head.now c.args.n (kept_at past).names (names-kept past)
+    names_long c.args.head.now c.args.n (kept_at past).names (names_kept past)
 
 within : (c : After-column_by_name-id) → c.column_by_name-id.result ≤ c.args.n
 within c =

@@ -1,4 +1,3 @@
-use borrow.Author.Rules.{rules}
 use Rattle.header.proofs.JudgeLaws.{file-short, file_unlisted}
 use Rattle.header.specs.Serving.Stages.{refused_with}
 use mathlib.Core.Path.{sym, ap, ◌∙◌}

@@ -1,15 +1,12 @@
-use borrow.Author.Rules.{rules}
 use Rattle.header.proofs.GatherLaws.{unsound_next}
 use Rattle.header.proofs.JudgeLaws.{columns-wrong, columns_many}
 use Rattle.header.proofs.PlaceLaws.{at_next}
 use Rattle.header.specs.Serving.Stages.{unsound}
-use Rattle.header.specs.Places.{place_after}
 use Rattle.limits.specs.Limits.{most_columns}
 use Rattle.laws.proofs.LowestLaws.{lowest-zero, none_next, lowest_next, lowest_nothing}
-use Rattle.laws.specs.Lowest.{None}
 use Rattle.refusal.specs.declared.Refusal.{Refusal}
 use native.Mathlib.Omega.{arith}
-use Prim.Native.Nat.{◌+◌, ◌-◌, ◌≤◌}
+use Prim.Native.Nat.{◌+◌}
 use mathlib.Core.Path.{◌≡◌, sym, ap, ◌∙◌}
 use Rattle.header.proofs.judge.judge_past.Goals as goal
 

@@ -1,4 +1,3 @@
-use borrow.Author.Rules.{rules}
 use Rattle.header.proofs.JudgeLaws.{file_cut, file_long, file_text_lem}
 use Rattle.header.specs.Serving.Stages.{refused_with}
 use native.Mathlib.Nat.{sub-zero}

@@ -1,4 +1,3 @@
-use borrow.Author.Rules.{rules}
 use Rattle.header.proofs.JudgeLaws.{scanned, text_bad, text_columns}
 use Rattle.header.specs.Serving.Stages.{refused_with}
 use Rattle.grammar.proofs.ScanBounds.{bad_within}

@@ -1,5 +1,4 @@
 use native.Mathlib.Omega.{arith}
-use borrow.Author.Rules.{rules}
 use Rattle.header.proofs.GatherLaws.{count-sound}
 use Rattle.header.proofs.layouts.count_kept.Goals as goal
 

@@ -1,4 +1,3 @@
-use borrow.Author.Rules.{rules}
 use Rattle.header.proofs.layouts.either_varies.Goals as goal
 
 pub returns-then-earlier : goal.returns-then-earlier

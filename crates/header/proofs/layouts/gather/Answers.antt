@@ -1,21 +1,15 @@
-use borrow.Author.Rules.{rules}
 use Rattle.header.proofs.GatherLaws.{unsound_next, starts_next, ends_next, keys_next, gathered_wrong, gathered_all}
 use Rattle.header.proofs.LayoutLaws.{varies_next, bytes_next, cols_next}
 use Rattle.header.proofs.PlaceLaws.{name_near, at_first, at_next}
-use Rattle.header.specs.Serving.Stages.{sound_size, unsound}
-use Rattle.header.specs.Layouts.{some_varies, bytes_of_all, blank_column, laid_out}
-use Rattle.header.specs.Places.{first_place, place_after, column}
+use Rattle.header.specs.Serving.Stages.{unsound}
 use Rattle.header.specs.declared.ColumnLayout.{ColumnLayout}
 use Rattle.header.specs.declared.Names.{Names}
 use Rattle.limits.specs.Limits.{most_columns}
 use Rattle.laws.proofs.LowestLaws.{none_start, none_next}
-use Rattle.laws.specs.Buffer.{one_to}
-use Rattle.laws.specs.Lowest.{None}
 use lib.ListN.{replicate}
 use native.Mathlib.Omega.{arith}
-use Prim.Native.Nat.{◌-◌, ◌*◌, ◌≤◌, ◌<◌}
-use mathlib.Core.List.{◌++◌}
-use mathlib.Core.Path.{◌≡◌, refl, sym, ap, ◌∙◌}
+use Prim.Native.Nat.{◌<◌}
+use mathlib.Core.Path.{refl, sym, ap, ◌∙◌}
 use Rattle.header.proofs.layouts.gather.Goals as goal
 use Rattle.header.proofs.layouts.gather.Goals.{After-definition_at-d}
 
@@ -35,8 +29,8 @@ loop-k-init c = (
 )
 
 -- a name that lies within the text has places that fit two bytes
-places-fit : (c : After-definition_at-d) → (c.definition_at-d.result.name.start < 65536) × (c.definition_at-d.result.name.end < 65536)
-places-fit c =
+places_fit : (c : After-definition_at-d) → (c.definition_at-d.result.name.start < 65536) × (c.definition_at-d.result.name.end < 65536)
+places_fit c =
     let near = name_near c.args.head.now c.loop-k.k c.loop-k.at c.definition_at-d.result c.loop-k.invariant.1 c.definition_at-d.ensures in
     (omega (arith, c.requires, near), omega (arith, c.requires, near))
 
@@ -44,10 +38,10 @@ pub lay_column-column-requires : goal.lay_column-column-requires
 lay_column-column-requires c = sym c.is_sound.ensures ∙ c.if-is_sound.true
 
 pub overflow_cast-names : goal.overflow_cast-names
-overflow_cast-names c = omega (arith, places-fit (goal.at.overflow_cast-names c).After-definition_at-d)
+overflow_cast-names c = omega (arith, places_fit (goal.at.overflow_cast-names c).After-definition_at-d)
 
 pub overflow_cast-names-then-is_sound : goal.overflow_cast-names-then-is_sound
-overflow_cast-names-then-is_sound c = omega (arith, places-fit (goal.at.overflow_cast-names-then-is_sound c).After-definition_at-d)
+overflow_cast-names-then-is_sound c = omega (arith, places_fit (goal.at.overflow_cast-names-then-is_sound c).After-definition_at-d)
 
 pub overflow_add-bytes : goal.overflow_add-bytes
 overflow_add-bytes c =

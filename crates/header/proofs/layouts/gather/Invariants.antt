@@ -1,21 +1,13 @@
-use borrow.Author.Rules.{rules}
-use Rattle.header.proofs.GatherLaws.{unsound_next, starts_next, ends_next, keys_next, gathered_wrong, gathered_all}
-use Rattle.header.proofs.LayoutLaws.{varies_next, bytes_next, cols_next}
-use Rattle.header.proofs.PlaceLaws.{name_near, at_first, at_next}
 use Rattle.header.specs.Serving.Stages.{sound_size, unsound}
 use Rattle.header.specs.Layouts.{some_varies, bytes_of_all, blank_column, laid_out}
 use Rattle.header.specs.Places.{first_place, place_after, column}
-use Rattle.header.specs.declared.ColumnLayout.{ColumnLayout}
-use Rattle.header.specs.declared.Names.{Names}
 use Rattle.limits.specs.Limits.{most_columns}
-use Rattle.laws.proofs.LowestLaws.{none_start, none_next}
 use Rattle.laws.specs.Buffer.{one_to}
 use Rattle.laws.specs.Lowest.{None}
 use lib.ListN.{replicate}
-use native.Mathlib.Omega.{arith}
-use Prim.Native.Nat.{◌-◌, ◌*◌, ◌≤◌, ◌<◌}
+use Prim.Native.Nat.{◌-◌, ◌*◌, ◌≤◌}
 use mathlib.Core.List.{◌++◌}
-use mathlib.Core.Path.{◌≡◌, refl, sym, ap, ◌∙◌}
+use mathlib.Core.Path.{◌≡◌}
 use Rattle.header.proofs.layouts.gather.Given as goal
 
 abbrev pub invariant-loop-k : goal.invariant-loop-k

@@ -1,4 +1,3 @@
-use borrow.Author.Rules.{rules}
 use mathlib.Core.Path.{◌∙◌, sym}
 use Rattle.header.specs.Judge.{sound}
 use Rattle.header.proofs.layouts.is_sound.Goals as goal

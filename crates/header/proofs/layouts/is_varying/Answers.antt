@@ -1,4 +1,3 @@
-use borrow.Author.Rules.{rules}
 use Rattle.header.specs.Layouts.{varies}
 use Rattle.header.proofs.layouts.is_varying.Goals as goal
 

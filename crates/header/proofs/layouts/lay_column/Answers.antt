@@ -1,4 +1,3 @@
-use borrow.Author.Rules.{rules}
 use Rattle.header.specs.Serving.Stages.{laid_after}
 use Rattle.header.proofs.layouts.lay_column.Goals as goal
 

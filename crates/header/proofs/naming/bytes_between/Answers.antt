@@ -1,4 +1,3 @@
-use borrow.Author.Rules.{rules}
 use Rattle.laws.proofs.PlaceLaws.{part_beyond, part_cut}
 use native.Mathlib.Omega.{arith}
 use mathlib.Core.Path.{◌≡◌}

@@ -1,10 +1,7 @@
-use borrow.Author.Rules.{rules}
 use Rattle.header.proofs.NameLaws.{among_tested}
 use Rattle.header.specs.Names.{names_from, is_among}
 use Rattle.laws.proofs.LowestLaws.{none_start, none_next, lowest_next, lowest_nothing}
-use Rattle.laws.specs.Lowest.{None}
 use native.Mathlib.Omega.{arith}
-use Prim.Native.Nat.{◌-◌, ◌≤◌}
 use mathlib.Core.Path.{◌≡◌, sym, ◌∙◌}
 use Rattle.header.proofs.naming.column_by_name.Goals as goal
 

@@ -13,7 +13,13 @@ use Prim.Native.Nat.{suc}
 use mathlib.Core.Bool.{false}
 use mathlib.Core.Path.{◌≡◌, refl, sym, ap, ◌∙◌}
 use Rattle.header.proofs.naming.doubled_name.Goals as goal
-use Rattle.header.proofs.naming.doubled_name.Goals.{After-number_of-number, then-seen-earlier+else-same_name, else-seen-earlier, else-search-test, then-search-test+then-loop-earlier-test+then-seen-earlier+then-same_name}
+use Rattle.header.proofs.naming.doubled_name.Goals.{
+  After-number_of-number,
+  then-seen-earlier+else-same_name,
+  else-seen-earlier,
+  else-search-test,
+  then-search-test+then-loop-earlier-test+then-seen-earlier+then-same_name,
+}
 
 -- the number of the later name
 number_is : (c : After-number_of-number) → c.number_of-number.result ≡ number_at c.args.head.now (suc c.search.later)

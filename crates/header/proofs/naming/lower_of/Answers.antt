@@ -1,4 +1,3 @@
-use borrow.Author.Rules.{rules}
 use borrow.Author.Tests.{le-leb, lt-leb}
 use Rattle.header.specs.Names.{lower}
 use Rattle.header.proofs.naming.lower_of.Goals as goal

@@ -1,10 +1,6 @@
 use Rattle.header.proofs.NameLaws.{same_length, same_next, same_stop, same_end}
-use Rattle.header.specs.Names.{same_text}
-use lib.ListN.{length, drop}
 use native.Mathlib.Omega.{arith}
-use Prim.Native.Nat.{◌-◌}
-use mathlib.Core.Path.{◌≡◌, refl, sym, ◌∙◌}
-use borrow.Author.Rules.{rules}
+use mathlib.Core.Path.{refl, sym, ◌∙◌}
 use Rattle.header.proofs.naming.same_text.Goals as goal
 
 pub returns-then-a-b : goal.returns-then-a-b

@@ -1,10 +1,7 @@
-use Rattle.header.proofs.NameLaws.{same_length, same_next, same_stop, same_end}
 use Rattle.header.specs.Names.{same_text}
 use lib.ListN.{length, drop}
-use native.Mathlib.Omega.{arith}
 use Prim.Native.Nat.{◌-◌}
-use mathlib.Core.Path.{◌≡◌, refl, sym, ◌∙◌}
-use borrow.Author.Rules.{rules}
+use mathlib.Core.Path.{◌≡◌}
 use Rattle.header.proofs.naming.same_text.Given as goal
 
 abbrev pub invariant-loop-i : goal.invariant-loop-i

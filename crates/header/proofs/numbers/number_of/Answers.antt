@@ -1,9 +1,6 @@
-use borrow.Author.Rules.{rules}
-use Prim.Native.Nat.{◌-◌, ◌%◌}
-use mathlib.Core.Path.{◌≡◌, refl, sym, ◌∙◌}
+use mathlib.Core.Path.{refl, sym, ◌∙◌}
 use native.Mathlib.Omega.{arith}
-use lib.ListN.{length, drop}
-use Rattle.header.specs.Serving.Numbers.{with_letters, number_of}
+use Rattle.header.specs.Serving.Numbers.{number_of}
 use Rattle.header.proofs.NumberLaws.{letter_next, letters_done}
 use Rattle.header.proofs.numbers.number_of.Goals as goal
 

@@ -1,10 +1,7 @@
-use borrow.Author.Rules.{rules}
 use Prim.Native.Nat.{◌-◌, ◌%◌}
-use mathlib.Core.Path.{◌≡◌, refl, sym, ◌∙◌}
-use native.Mathlib.Omega.{arith}
+use mathlib.Core.Path.{◌≡◌}
 use lib.ListN.{length, drop}
-use Rattle.header.specs.Serving.Numbers.{with_letters, number_of}
-use Rattle.header.proofs.NumberLaws.{letter_next, letters_done}
+use Rattle.header.specs.Serving.Numbers.{with_letters}
 use Rattle.header.proofs.numbers.number_of.Given as goal
 
 abbrev pub invariant-loop-i : goal.invariant-loop-i

@@ -1,7 +1,6 @@
 use lib.ListN.{get_or-eq_default}
 use native.Mathlib.Omega.{arith}
 use mathlib.Core.Path.{sym}
-use borrow.Author.Rules.{rules}
 use Rattle.header.proofs.places.byte_at.Goals as goal
 
 pub returns-else-p-head : goal.returns-else-p-head

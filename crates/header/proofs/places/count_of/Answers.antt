@@ -1,7 +1,6 @@
 use Rattle.header.proofs.CountLaws.{count_long, count_short}
 use native.Mathlib.Omega.{arith}
 use mathlib.Core.Path.{◌∙◌}
-use borrow.Author.Rules.{rules}
 use Rattle.header.proofs.places.count_of.Goals as goal
 
 pub returns-then-p-e : goal.returns-then-p-e

@@ -1,5 +1,4 @@
 use Rattle.header.proofs.PlaceLaws.{defined}
-use borrow.Author.Rules.{rules}
 use Rattle.header.proofs.places.definition_at.Goals as goal
 
 pub returns : goal.returns

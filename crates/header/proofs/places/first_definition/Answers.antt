@@ -1,4 +1,3 @@
-use borrow.Author.Rules.{rules}
 use Rattle.header.specs.Places.{first_place}
 use Rattle.header.proofs.places.first_definition.Goals as goal
 

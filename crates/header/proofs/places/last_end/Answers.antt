@@ -1,4 +1,3 @@
-use borrow.Author.Rules.{rules}
 use Rattle.header.proofs.PlaceLaws.{last_at_0, last_at-comma, last_at-colon}
 use Rattle.header.proofs.places.last_end.Goals as goal
 

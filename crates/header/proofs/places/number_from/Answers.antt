@@ -1,11 +1,7 @@
 use Rattle.header.proofs.CountLaws.{decimal_next, decimal_done, decimal_bound}
-use Rattle.header.specs.Serving.Stages.{greatest_count}
-use Rattle.header.specs.Places.{decimal}
-use lib.ListN.{take, drop}
 use native.Mathlib.Omega.{arith}
-use Prim.Native.Nat.{◌+◌, ◌-◌, ◌*◌, ◌≤◌}
-use mathlib.Core.Path.{◌≡◌, refl, sym, ◌∙◌}
-use borrow.Author.Rules.{rules}
+use Prim.Native.Nat.{◌+◌, ◌*◌}
+use mathlib.Core.Path.{refl, sym, ◌∙◌}
 use Rattle.header.proofs.places.number_from.Goals as goal
 
 pub loop-i-init : goal.loop-i-init

@@ -1,11 +1,8 @@
-use Rattle.header.proofs.CountLaws.{decimal_next, decimal_done, decimal_bound}
 use Rattle.header.specs.Serving.Stages.{greatest_count}
 use Rattle.header.specs.Places.{decimal}
 use lib.ListN.{take, drop}
-use native.Mathlib.Omega.{arith}
-use Prim.Native.Nat.{◌+◌, ◌-◌, ◌*◌, ◌≤◌}
-use mathlib.Core.Path.{◌≡◌, refl, sym, ◌∙◌}
-use borrow.Author.Rules.{rules}
+use Prim.Native.Nat.{◌-◌, ◌≤◌}
+use mathlib.Core.Path.{◌≡◌}
 use Rattle.header.proofs.places.number_from.Given as goal
 
 abbrev pub invariant-loop-i : goal.invariant-loop-i

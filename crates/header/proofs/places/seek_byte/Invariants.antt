@@ -1,10 +1,7 @@
-use Rattle.header.proofs.PlaceLaws.{seek_here, seek_end, seek_next}
 use Rattle.header.specs.Places.{seek}
 use lib.ListN.{length}
-use native.Mathlib.Omega.{arith}
 use Prim.Native.Nat.{◌-◌}
-use mathlib.Core.Path.{◌≡◌, refl, ◌∙◌}
-use borrow.Author.Rules.{rules}
+use mathlib.Core.Path.{◌≡◌}
 use Rattle.header.proofs.places.seek_byte.Given as goal
 
 abbrev pub invariant-loop-i : goal.invariant-loop-i

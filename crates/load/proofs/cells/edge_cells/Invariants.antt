@@ -1,12 +1,8 @@
-use borrow.Author.Rules.{rules}
-use mathlib.Core.Path.{◌≡◌, refl, ap, ◌∙◌}
-use Prim.Native.Nat.{ℕ, suc, ◌-◌, ◌≤◌}
-use native.Mathlib.Omega.{arith}
+use mathlib.Core.Path.{◌≡◌}
+use Prim.Native.Nat.{◌-◌, ◌≤◌}
 use lib.ListN.{get_or, replicate}
 use Rattle.laws.specs.Buffer.{front}
-use Rattle.laws.proofs.BufferLaws.{front_next}
-use Rattle.taken.specs.Numbers.{number_by}
-use Rattle.load.specs.Serving.CellPlans.{cell_at, cells_at}
+use Rattle.load.specs.Serving.CellPlans.{cell_at}
 use Rattle.load.proofs.cells.edge_cells.Given as goal
 
 abbrev pub invariant-loop-k : goal.invariant-loop-k

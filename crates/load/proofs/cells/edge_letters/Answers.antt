@@ -1,5 +1,5 @@
 use mathlib.Core.Path.{◌≡◌, refl, ap, ◌∙◌}
-use Prim.Native.Nat.{ℕ, suc, pred, ◌-◌, ◌≤◌}
+use Prim.Native.Nat.{ℕ, suc, pred, ◌-◌}
 use native.Mathlib.Omega.{arith}
 use lib.ListN.{get_or, replicate}
 use Rattle.laws.specs.Buffer.{front}
@@ -7,7 +7,6 @@ use Rattle.laws.proofs.BufferLaws.{front_next}
 use Rattle.field.specs.Fields.{letter_of}
 use Rattle.table.specs.Rows.{column_at}
 use Rattle.load.specs.Serving.CellPlans.{letters_of}
-use borrow.Author.Rules.{rules}
 use Rattle.load.proofs.cells.edge_letters.Goals as goal
 
 pub loop-k-init : goal.loop-k-init

@@ -1,13 +1,9 @@
-use mathlib.Core.Path.{◌≡◌, refl, ap, ◌∙◌}
-use Prim.Native.Nat.{ℕ, suc, pred, ◌-◌, ◌≤◌}
-use native.Mathlib.Omega.{arith}
+use mathlib.Core.Path.{◌≡◌}
+use Prim.Native.Nat.{◌-◌, ◌≤◌}
 use lib.ListN.{get_or, replicate}
 use Rattle.laws.specs.Buffer.{front}
-use Rattle.laws.proofs.BufferLaws.{front_next}
 use Rattle.field.specs.Fields.{letter_of}
 use Rattle.table.specs.Rows.{column_at}
-use Rattle.load.specs.Serving.CellPlans.{letters_of}
-use borrow.Author.Rules.{rules}
 use Rattle.load.proofs.cells.edge_letters.Given as goal
 
 abbrev pub invariant-loop-k : goal.invariant-loop-k

@@ -1,13 +1,9 @@
-use borrow.Author.Rules.{rules}
-use mathlib.Core.Path.{◌≡◌, refl, ap, ◌∙◌}
-use Prim.Native.Nat.{ℕ, suc, ◌-◌, ◌≤◌}
-use native.Mathlib.Omega.{arith}
+use mathlib.Core.Path.{◌≡◌}
+use Prim.Native.Nat.{suc, ◌-◌, ◌≤◌}
 use lib.ListN.{replicate}
 use Rattle.laws.specs.Buffer.{front}
-use Rattle.laws.proofs.BufferLaws.{front_next}
 use Rattle.limits.specs.Limits.{most_columns}
 use Rattle.table.specs.Rows.{column_at}
-use Rattle.load.specs.Serving.CellPlans.{offsets_of}
 use Rattle.load.proofs.cells.offsets_of.Given as goal
 
 abbrev pub invariant-loop-k : goal.invariant-loop-k

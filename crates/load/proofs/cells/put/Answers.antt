@@ -1,5 +1,4 @@
 -- `load::cells::put` meets its contract: beyond the column's end nothing is set.
-use borrow.Author.Rules.{rules}
 use mathlib.Core.Path.{sym}
 use native.Mathlib.Omega.{arith}
 use lib.Seq.{set_out}

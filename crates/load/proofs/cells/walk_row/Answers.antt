@@ -1,4 +1,3 @@
-use borrow.Author.Rules.{rules}
 use borrow.Author.Tests.{eq-eqb, ne_eqb}
 use Rattle.load.specs.Serving.CellPlans.{origin_of, places_for}
 use Rattle.load.proofs.cells.walk_row.Goals as goal

@@ -1,13 +1,8 @@
-use borrow.Author.Rules.{rules}
-use mathlib.Core.Path.{◌≡◌, refl, ap, ◌∙◌}
-use Prim.Native.Nat.{ℕ, pred, ◌-◌, ◌≤◌}
-use native.Mathlib.Omega.{arith}
+use mathlib.Core.Path.{◌≡◌}
+use Prim.Native.Nat.{◌-◌, ◌≤◌}
 use Rattle.table.specs.Rows.{bound_of}
-use Rattle.table.proofs.RowLaws.{column_there}
-use Rattle.table.proofs.PlanLaws.{bound_first}
-use Rattle.taken.specs.Numbers.{number_by}
 use Rattle.load.specs.Cells.{cell_of}
-use Rattle.load.proofs.CellLaws.{Ready, ready, Written, written_next, written_all, turn}
+use Rattle.load.proofs.CellLaws.{Ready, Written}
 use Rattle.load.proofs.cells.write_column.Given as goal
 
 abbrev pub invariant-loop-i : goal.invariant-loop-i

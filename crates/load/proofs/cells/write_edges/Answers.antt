@@ -1,12 +1,10 @@
-use borrow.Author.Rules.{rules}
 use mathlib.Core.Path.{◌≡◌, refl}
-use Prim.Native.Nat.{◌-◌, ◌≤◌, ℕ}
+use Prim.Native.Nat.{◌-◌, ℕ}
 use native.Mathlib.Omega.{arith}
-use Rattle.table.specs.Rows.{bound_of}
 use Rattle.table.proofs.PlanLaws.{bound_first}
 use Rattle.load.specs.Sources.{number_at_place}
 use Rattle.load.specs.Cells.{cell_of}
-use Rattle.load.proofs.CellLaws.{six_there, Ready, ready, Written, written_all, turn, cells_read, written_cell}
+use Rattle.load.proofs.CellLaws.{six_there, ready, written_all, turn, cells_read, written_cell}
 use Rattle.load.proofs.cells.write_edges.Goals as goal
 
 pub edge_letters-letters-requires : goal.edge_letters-letters-requires

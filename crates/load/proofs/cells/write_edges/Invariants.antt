@@ -1,12 +1,9 @@
-use borrow.Author.Rules.{rules}
-use mathlib.Core.Path.{◌≡◌, refl}
-use Prim.Native.Nat.{◌-◌, ◌≤◌, ℕ}
-use native.Mathlib.Omega.{arith}
+use mathlib.Core.Path.{◌≡◌}
+use Prim.Native.Nat.{◌-◌, ◌≤◌}
 use Rattle.table.specs.Rows.{bound_of}
-use Rattle.table.proofs.PlanLaws.{bound_first}
 use Rattle.load.specs.Sources.{number_at_place}
 use Rattle.load.specs.Cells.{cell_of}
-use Rattle.load.proofs.CellLaws.{six_there, Ready, ready, Written, written_all, turn, cells_read, written_cell}
+use Rattle.load.proofs.CellLaws.{Ready, Written}
 use Rattle.load.proofs.cells.write_edges.Given as goal
 
 abbrev pub invariant-loop-i : goal.invariant-loop-i

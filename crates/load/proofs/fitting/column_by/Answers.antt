@@ -1,4 +1,3 @@
-use borrow.Author.Rules.{rules}
 use Rattle.load.specs.Serving.Named.{column_by}
 use Rattle.load.proofs.fitting.column_by.Goals as goal
 

@@ -1,4 +1,3 @@
-use borrow.Author.Rules.{rules}
 use Rattle.load.specs.Serving.Named.{columns_by}
 use Rattle.load.proofs.fitting.find_columns.Goals as goal
 

@@ -1,7 +1,6 @@
 use Rattle.load.proofs.FitLaws.{in_layout}
 use mathlib.Core.Path.{◌≡◌}
 use mathlib.Core.Bool.{cond}
-use borrow.Author.Rules.{rules}
 use Rattle.load.specs.Sources.{fitting}
 use Rattle.load.proofs.fitting.fit.Goals as goal
 use Rattle.load.proofs.fitting.fit.Goals.{After-type_fits}

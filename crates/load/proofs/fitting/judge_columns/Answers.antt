@@ -1,4 +1,3 @@
-use borrow.Author.Rules.{rules}
 use Rattle.load.proofs.FitLaws.{found_there, found_nowhere}
 use Rattle.load.specs.Sources.{table_at}
 use Rattle.load.specs.declared.TableName.{TableName}

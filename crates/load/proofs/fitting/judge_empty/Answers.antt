@@ -1,4 +1,3 @@
-use borrow.Author.Rules.{rules}
 use borrow.Author.Tests.{eq-eqb, ne_eqb}
 use Rattle.load.specs.Load.{empty_finding}
 use Rattle.load.proofs.fitting.judge_empty.Goals as goal

@@ -1,4 +1,3 @@
-use borrow.Author.Rules.{rules}
 use Rattle.load.specs.Serving.Stages.{fit_finding}
 use Rattle.load.proofs.fitting.judge_fit.Goals as goal
 

@@ -1,4 +1,3 @@
-use borrow.Author.Rules.{rules}
 use Rattle.load.proofs.FitLaws.{found_nowhere, room_some}
 use Rattle.load.specs.declared.TableName.{TableName}
 use Rattle.load.specs.Sources.{table_at}

@@ -1,10 +1,8 @@
 use borrow.Author.Tests.{eq-eqb, ne_eqb}
 use Rattle.load.specs.Load.{missing}
 use Rattle.laws.proofs.LowestLaws.{none_start, none_next, lowest_next, lowest_ended}
-use Rattle.laws.specs.Lowest.{None}
 use native.Mathlib.Omega.{arith}
-use Prim.Native.Nat.{◌≤◌, ◌-◌}
-use borrow.Author.Rules.{rules}
+use Prim.Native.Nat.{◌-◌}
 use Rattle.load.proofs.fitting.missing_place.Goals as goal
 
 pub loop-i-init : goal.loop-i-init

@@ -1,4 +1,3 @@
-use borrow.Author.Rules.{rules}
 use Rattle.load.specs.Sources.{type_fits}
 use Rattle.load.proofs.fitting.type_fits.Goals as goal
 

@@ -1,4 +1,3 @@
-use borrow.Author.Rules.{rules}
 use borrow.Author.Tests.{eq-eqb, ne_eqb}
 use Rattle.table.specs.Plans.{bound_by}
 use Rattle.table.proofs.rows.bound_by.Goals as goal

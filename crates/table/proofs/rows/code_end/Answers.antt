@@ -1,4 +1,3 @@
-use borrow.Author.Rules.{rules}
 use borrow.Author.Tests.{eq-eqb, le-leb, lt-leb, ne_eqb}
 use Rattle.table.specs.Plans.{code_end}
 use Rattle.table.proofs.rows.code_end.Goals as goal

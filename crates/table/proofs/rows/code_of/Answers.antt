@@ -1,4 +1,3 @@
-use borrow.Author.Rules.{rules}
 use Rattle.table.specs.Plans.{code_of}
 use Rattle.table.proofs.rows.code_of.Goals as goal
 

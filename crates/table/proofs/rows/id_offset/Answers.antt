@@ -3,7 +3,6 @@ use Rattle.table.proofs.RowLaws.{column_there}
 use native.Mathlib.Omega.{arith}
 use Prim.Native.Nat.{pred, ◌-◌}
 use mathlib.Core.Path.{◌≡◌}
-use borrow.Author.Rules.{rules}
 use Rattle.table.specs.Serving.RowPlans.{id_offset}
 use Rattle.table.proofs.rows.id_offset.Goals as goal
 

@@ -1,9 +1,6 @@
-use borrow.Author.Rules.{rules}
-use Rattle.table.proofs.PlanLaws.{FineTo, NextRow, fine_first, fine_next, fixed_next, lowest_refused, none_refused}
+use Rattle.table.proofs.PlanLaws.{FineTo}
 use Rattle.limits.specs.Limits.{most_rows}
-use native.Mathlib.Omega.{arith}
 use Prim.Native.Nat.{◌-◌, ◌≤◌}
-use mathlib.Core.Path.{◌∙◌}
 use Rattle.table.proofs.rows.judge_fixed.Given as goal
 
 abbrev pub invariant-loop-i : goal.invariant-loop-i

@@ -1,4 +1,3 @@
-use borrow.Author.Rules.{rules}
 use mathlib.Core.Path.{sym, ◌∙◌}
 use Rattle.refusal.specs.Order.{first}
 use Rattle.table.specs.Serving.RowPlans.{fixed_row}

@@ -1,4 +1,3 @@
-use borrow.Author.Rules.{rules}
 use Rattle.table.specs.Rows.{rows_refusal}
 use Rattle.table.proofs.rows.judge_rows.Goals as goal
 

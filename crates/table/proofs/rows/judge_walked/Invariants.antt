@@ -1,10 +1,8 @@
-use borrow.Author.Rules.{rules}
-use Rattle.table.proofs.PlanLaws.{length_planned, FineTo, NextRow, fine_first, fine_next, walked_next, lowest_refused, none_refused}
+use Rattle.table.proofs.PlanLaws.{FineTo}
 use Rattle.limits.specs.Limits.{most_columns, most_rows}
-use native.Mathlib.Omega.{arith}
-use Prim.Native.Nat.{◌+◌, ◌-◌, ◌≤◌}
+use Prim.Native.Nat.{◌-◌, ◌≤◌}
 use lib.ListN.{length}
-use mathlib.Core.Path.{◌≡◌, refl, ap, ◌∙◌}
+use mathlib.Core.Path.{◌≡◌}
 use Rattle.table.proofs.rows.judge_walked.Given as goal
 
 abbrev pub invariant-loop-i : goal.invariant-loop-i

@@ -1,11 +1,10 @@
-use borrow.Author.Rules.{rules}
 use Rattle.table.specs.Plans.{code_at, plan_of}
 use Rattle.limits.specs.Limits.{most_columns}
 use Rattle.laws.proofs.BufferLaws.{front_next}
 use Rattle.laws.specs.Buffer.{front}
 use lib.ListN.{replicate}
 use native.Mathlib.Omega.{arith}
-use Prim.Native.Nat.{ℕ, ◌-◌, ◌≤◌}
+use Prim.Native.Nat.{ℕ, ◌-◌}
 use mathlib.Core.Path.{◌≡◌, refl, ap, ◌∙◌}
 use Rattle.table.proofs.rows.plan_of.Goals as goal
 

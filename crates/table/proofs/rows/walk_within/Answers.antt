@@ -1,13 +1,12 @@
-use borrow.Author.Rules.{rules}
 use mathlib.Core.Path.{◌≡◌, refl, sym, ap, ◌∙◌}
-use Prim.Native.Nat.{ℕ, ◌-◌, ◌≤◌}
+use Prim.Native.Nat.{ℕ, ◌-◌}
 use native.Mathlib.Omega.{arith}
 use lib.ListN.{get_or}
 use Rattle.table.proofs.WalkLaws.{left_next}
 use Rattle.table.proofs.PlanLaws.{plan_next, plan_stopped, plan_left}
 use Rattle.table.proofs.FieldLaws.{code-within}
 use Rattle.table.specs.Plans.{plan_reach, places_left}
-use Rattle.table.specs.declared.Reach.TheVariants.{At, Short, Cut}
+use Rattle.table.specs.declared.Reach.TheVariants.{Short, Cut}
 use Rattle.table.proofs.rows.walk_within.Goals as goal
 
 pub loop-j-init : goal.loop-j-init

@@ -1,13 +1,7 @@
-use borrow.Author.Rules.{rules}
-use mathlib.Core.Path.{◌≡◌, refl, sym, ap, ◌∙◌}
-use Prim.Native.Nat.{ℕ, ◌-◌, ◌≤◌}
-use native.Mathlib.Omega.{arith}
-use lib.ListN.{get_or}
-use Rattle.table.proofs.WalkLaws.{left_next}
-use Rattle.table.proofs.PlanLaws.{plan_next, plan_stopped, plan_left}
-use Rattle.table.proofs.FieldLaws.{code-within}
+use mathlib.Core.Path.{◌≡◌}
+use Prim.Native.Nat.{◌-◌, ◌≤◌}
 use Rattle.table.specs.Plans.{plan_reach, places_left}
-use Rattle.table.specs.declared.Reach.TheVariants.{At, Short, Cut}
+use Rattle.table.specs.declared.Reach.TheVariants.{At}
 use Rattle.table.proofs.rows.walk_within.Given as goal
 
 abbrev pub invariant-loop-j : goal.invariant-loop-j

@@ -1,12 +1,10 @@
 -- `tile::columns::bad_entry` meets its contract. The loop's invariant: none of the rows passed fails.
 use mathlib.Core.Path.{sym, ◌∙◌}
 use native.Mathlib.Omega.{arith}
-use Prim.Native.Nat.{◌≤◌, ◌-◌}
+use Prim.Native.Nat.{◌-◌}
 use lib.ListN.{length}
 use Rattle.laws.proofs.LowestLaws.{none_start, none_next, lowest_next, lowest_ended}
-use Rattle.laws.specs.Lowest.{None}
 use Rattle.tile.specs.Check.{entry_outside}
-use borrow.Author.Rules.{rules}
 use Rattle.tile.proofs.columns.bad_entry.Goals as goal
 
 pub loop-i-init : goal.loop-i-init

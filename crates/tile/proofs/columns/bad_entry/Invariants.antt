@@ -1,11 +1,7 @@
-use mathlib.Core.Path.{sym, ◌∙◌}
-use native.Mathlib.Omega.{arith}
 use Prim.Native.Nat.{◌≤◌, ◌-◌}
 use lib.ListN.{length}
-use Rattle.laws.proofs.LowestLaws.{none_start, none_next, lowest_next, lowest_ended}
 use Rattle.laws.specs.Lowest.{None}
 use Rattle.tile.specs.Check.{entry_outside}
-use borrow.Author.Rules.{rules}
 use Rattle.tile.proofs.columns.bad_entry.Given as goal
 
 abbrev pub invariant-loop-i : goal.invariant-loop-i

@@ -1,14 +1,8 @@
-use mathlib.Core.Path.{sym, ap, ◌∙◌}
-use mathlib.Core.Bool.{Bool}
-use native.Mathlib.Omega.{arith}
-use native.Mathlib.Numerals.{add-one}
 use Prim.Native.Nat.{ℕ, ◌≤◌, ◌-◌}
-use lib.ListN.{length, get_or}
-use Rattle.laws.proofs.LowestLaws.{none_start, none_next, lowest_next, lowest_ended}
+use lib.ListN.{length}
 use Rattle.laws.specs.Lowest.{None}
 use Rattle.laws.specs.Orbit.{entry}
 use Rattle.tile.specs.Check.{edge_away}
-use borrow.Author.Rules.{rules}
 use Rattle.tile.proofs.columns.bad_node.Given as goal
 
 abbrev pub invariant-loop-i : goal.invariant-loop-i

@@ -2,11 +2,9 @@
 use mathlib.Core.Path.{sym, ap, ◌∙◌}
 use native.Mathlib.Omega.{arith}
 use native.Mathlib.Numerals.{add-one}
-use Prim.Native.Nat.{◌≤◌, ◌-◌}
+use Prim.Native.Nat.{◌-◌}
 use Rattle.laws.proofs.LowestLaws.{none_start, none_next, lowest_next, lowest_ended}
-use Rattle.laws.specs.Lowest.{None}
 use Rattle.tile.specs.Check.{row_outside}
-use borrow.Author.Rules.{rules}
 use Rattle.tile.proofs.columns.bad_row.Goals as goal
 
 pub loop-i-init : goal.loop-i-init

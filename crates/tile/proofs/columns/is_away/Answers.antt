@@ -1,5 +1,4 @@
 -- `tile::columns::is_away` meets its contract: each answer is the branch of the definition with the tests that led to it.
-use borrow.Author.Rules.{rules}
 use mathlib.Core.Path.{ap}
 use mathlib.Core.Bool.{Bool, not}
 use Prim.Native.Nat.{ℕ}

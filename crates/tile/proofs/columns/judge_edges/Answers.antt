@@ -6,7 +6,6 @@ use Rattle.side.specs.Edges.{Edges, edges, side_count}
 use Rattle.tile.specs.Check.{edge_side_refusal}
 use Rattle.tile.specs.Serving.Stages.{edge_tests}
 use Rattle.tile.proofs.OwnerLaws.{tally_zero}
-use borrow.Author.Rules.{rules}
 use Rattle.tile.proofs.columns.judge_edges.Goals as goal
 use Rattle.tile.proofs.columns.judge_edges.Goals.{Start}
 

@@ -1,5 +1,4 @@
 -- `tile::columns::judge_side` meets its contract: what is wrong is what the successor says.
-use borrow.Author.Rules.{rules}
 use mathlib.Core.Path.{◌∙◌, sym}
 use Rattle.tile.proofs.columns.judge_side.Goals as goal
 

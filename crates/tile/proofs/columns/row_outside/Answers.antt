@@ -1,5 +1,4 @@
 -- `tile::columns::row_outside` meets its contract: the first column's number decides, and else the second's.
-use borrow.Author.Rules.{rules}
 use mathlib.Core.Path.{ap, ◌∙◌}
 use Rattle.side.specs.Edges.{outside}
 use Rattle.tile.proofs.JoinedTests.{or_second}

@@ -1,12 +1,10 @@
 -- `tile::owners::clear` meets its contract. The loop's invariant: the marks passed are zero, the others as they were.
 use mathlib.Core.Path.{◌≡◌, refl}
 use native.Mathlib.Omega.{arith}
-use Prim.Native.Nat.{◌≤◌, ◌<◌, ◌-◌}
+use Prim.Native.Nat.{◌<◌, ◌-◌}
 use lib.ListN.{length, length-set}
 use Rattle.laws.proofs.BufferLaws.{front_next}
-use Rattle.laws.specs.Buffer.{front}
 use Rattle.laws.specs.Marks.{zeros}
-use borrow.Author.Rules.{rules}
 use Rattle.tile.proofs.owners.clear.Goals as goal
 
 pub loop-i-init : goal.loop-i-init

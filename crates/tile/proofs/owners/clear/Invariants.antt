@@ -1,11 +1,8 @@
-use mathlib.Core.Path.{◌≡◌, refl}
-use native.Mathlib.Omega.{arith}
-use Prim.Native.Nat.{◌≤◌, ◌<◌, ◌-◌}
-use lib.ListN.{length, length-set}
-use Rattle.laws.proofs.BufferLaws.{front_next}
+use mathlib.Core.Path.{◌≡◌}
+use Prim.Native.Nat.{◌≤◌, ◌-◌}
+use lib.ListN.{length}
 use Rattle.laws.specs.Buffer.{front}
 use Rattle.laws.specs.Marks.{zeros}
-use borrow.Author.Rules.{rules}
 use Rattle.tile.proofs.owners.clear.Given as goal
 
 abbrev pub invariant-loop-i : goal.invariant-loop-i

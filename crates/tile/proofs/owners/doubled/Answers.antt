@@ -2,7 +2,6 @@
 use Rattle.laws.proofs.MarkLaws.{pred_answer}
 use Rattle.side.specs.Successor.{after}
 use Rattle.side.specs.Edges.{edges, side_count}
-use borrow.Author.Rules.{rules}
 use Rattle.tile.proofs.owners.doubled.Goals as goal
 
 pub returns : goal.returns

@@ -1,13 +1,11 @@
 -- `tile::owners::find` meets its contract. The loop's invariant: none of the marks passed holds the value.
 use native.Mathlib.Omega.{arith}
-use Prim.Native.Nat.{ℕ, ◌≤◌, ◌-◌}
+use Prim.Native.Nat.{ℕ, ◌-◌}
 use lib.ListN.{get_or}
 use lib.Dec.{eqb}
 use borrow.Author.Tests.{eq-eqb, ne_eqb}
 use Rattle.laws.proofs.LowestLaws.{none_start, none_next, lowest_next, lowest_ended}
-use Rattle.laws.specs.Lowest.{None}
 use Rattle.laws.specs.Orbit.{entry}
-use borrow.Author.Rules.{rules}
 use Rattle.tile.proofs.owners.find.Goals as goal
 
 pub loop-i-init : goal.loop-i-init

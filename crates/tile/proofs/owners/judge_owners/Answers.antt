@@ -10,7 +10,6 @@ use Rattle.side.specs.Successor.{after}
 use Rattle.side.specs.Edges.{edges, side_count}
 use Rattle.tile.specs.Serving.Stages.{start_of, owner_tests}
 use Rattle.tile.proofs.OwnerLaws.{all_painted}
-use borrow.Author.Rules.{rules}
 use Rattle.tile.proofs.owners.judge_owners.Goals as goal
 
 pub own-requires : goal.own-requires

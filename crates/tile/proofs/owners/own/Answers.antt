@@ -1,20 +1,17 @@
 -- `tile::owners::own` meets its contract. The loop's invariant: the marks hold the owners among the ring rows passed, none of which was taken.
 use mathlib.Core.Path.{◌≡◌, refl, sym, ap, ◌∙◌}
 use native.Mathlib.Omega.{arith}
-use Prim.Native.Nat.{suc, ◌*◌, ◌≤◌, ◌-◌}
+use Prim.Native.Nat.{suc, ◌*◌, ◌-◌}
 use lib.ListN.{length}
 use Rattle.laws.proofs.MarkLaws.{cleared, own_taken, own_next, own_turn}
 use Rattle.laws.proofs.LowestLaws.{none_start, lowest_ended}
-use Rattle.laws.specs.Buffer.{front}
-use Rattle.laws.specs.Marks.{owner_at, already_met}
+use Rattle.laws.specs.Marks.{already_met}
 use Rattle.laws.specs.Orbit.{entry}
-use Rattle.laws.specs.Lowest.{None}
 use Rattle.side.proofs.SideLaws.{after_zero}
 use Rattle.side.specs.Successor.{after}
 use Rattle.tile.specs.Serving.Stages.{start_of}
 use Rattle.tile.proofs.OwnerLaws.{Painting, painting, start_is, start_within, stopped_at, stopped_last}
 use Rattle.side.specs.Edges.{Edges, side_count, edges as columns_of}
-use borrow.Author.Rules.{rules}
 use Rattle.tile.proofs.owners.own.Goals as goal
 use Rattle.tile.proofs.owners.own.Goals.{After-side_with-start, Start}
 
@@ -114,7 +111,8 @@ loop-r-preserved c =
 
 pub returns : goal.returns
 returns c =
-    let t = columns (goal.at.returns c).Start in let z = lowest_ended (already_met (after t) (side_count t) (start_of t c.args.fac_id.now c.args.start_edge.now)) (length c.args.fac_id.now) c.loop-r.r c.loop-r-test.false
+    let t = columns (goal.at.returns c).Start in let z = lowest_ended (already_met (after t) (side_count t)
+    (start_of t c.args.fac_id.now c.args.start_edge.now)) (length c.args.fac_id.now) c.loop-r.r c.loop-r-test.false
     c.loop-r.invariant.0 c.loop-r.invariant.4 in
     let q : c.loop-r.r ≡ length c.args.fac_id.now = omega arith in record {
       value = z;

@@ -1,19 +1,12 @@
-use mathlib.Core.Path.{◌≡◌, refl, sym, ap, ◌∙◌}
-use native.Mathlib.Omega.{arith}
-use Prim.Native.Nat.{suc, ◌*◌, ◌≤◌, ◌-◌}
+use mathlib.Core.Path.{◌≡◌}
+use Prim.Native.Nat.{◌*◌, ◌≤◌, ◌-◌}
 use lib.ListN.{length}
-use Rattle.laws.proofs.MarkLaws.{cleared, own_taken, own_next, own_turn}
-use Rattle.laws.proofs.LowestLaws.{none_start, lowest_ended}
 use Rattle.laws.specs.Buffer.{front}
 use Rattle.laws.specs.Marks.{owner_at, already_met}
-use Rattle.laws.specs.Orbit.{entry}
 use Rattle.laws.specs.Lowest.{None}
-use Rattle.side.proofs.SideLaws.{after_zero}
 use Rattle.side.specs.Successor.{after}
 use Rattle.tile.specs.Serving.Stages.{start_of}
-use Rattle.tile.proofs.OwnerLaws.{Painting, painting, start_is, start_within, stopped_at, stopped_last}
-use Rattle.side.specs.Edges.{Edges, side_count, edges as columns_of}
-use borrow.Author.Rules.{rules}
+use Rattle.side.specs.Edges.{edges as columns_of}
 use Rattle.tile.proofs.owners.own.Given as goal
 
 abbrev pub invariant-loop-r : goal.invariant-loop-r

@@ -9,15 +9,11 @@ use lib.Dec.{eqb}
 use Rattle.laws.proofs.MarkLaws.{paint_start, paint_turn, paint_back, paint_none}
 use Rattle.laws.proofs.OrbitLaws.{iterate_in, iterate_next}
 use Rattle.laws.proofs.LowestLaws.{none_start, none_next}
-use Rattle.laws.specs.Buffer.{front}
-use Rattle.laws.specs.Marks.{painted}
 use Rattle.laws.specs.Orbit.{iterate}
-use Rattle.laws.specs.Lowest.{None}
 use Rattle.side.proofs.SideLaws.{after_zero}
 use Rattle.side.specs.Successor.{after}
 use Rattle.side.specs.Edges.{Edges, edges, side_count}
 use Rattle.tile.proofs.OwnerLaws.{goes, apart}
-use borrow.Author.Rules.{rules}
 use Rattle.tile.proofs.owners.paint.Goals as goal
 use Rattle.tile.proofs.owners.paint.Goals.{After-side_after-s, Start}
 
@@ -47,7 +43,8 @@ inside c =
 
 pub returns-then-start-eq0 : goal.returns-then-start-eq0
 returns-then-start-eq0 c =
-    paint_none (after (columns (goal.at.returns-then-start-eq0 c).Start)) (side_count (columns (goal.at.returns-then-start-eq0 c).Start)) c.args.marks.now c.args.start c.args.row (after_zero (columns (goal.at.returns-then-start-eq0 c).Start))
+    paint_none (after (columns (goal.at.returns-then-start-eq0 c).Start)) (side_count (columns (goal.at.returns-then-start-eq0 c).Start))
+    c.args.marks.now c.args.start c.args.row (after_zero (columns (goal.at.returns-then-start-eq0 c).Start))
     c.requires.start_node_in_bounds c.if-start-eq0.true
 
 pub loop-k-init : goal.loop-k-init
@@ -64,7 +61,8 @@ loop-k-init c = (
 pub side_after-s-requires : goal.side_after-s-requires
 side_after-s-requires c = record {
   regular = c.requires.cycles.0;
-  s_bound = rw c.loop-k.invariant.2 (iterate_in (after (columns (goal.at.side_after-s-requires c).Start)) (side_count (columns (goal.at.side_after-s-requires c).Start)) (goes (columns (goal.at.side_after-s-requires c).Start) c.requires.cycles.1)
+  s_bound = rw c.loop-k.invariant.2 (iterate_in (after (columns (goal.at.side_after-s-requires c).Start))
+      (side_count (columns (goal.at.side_after-s-requires c).Start)) (goes (columns (goal.at.side_after-s-requires c).Start) c.requires.cycles.1)
       c.loop-k.k c.args.start (omega arith) c.requires.start_bound).1;
 }
 

@@ -1,22 +1,13 @@
-use mathlib.Core.Path.{◌≡◌, refl, ap, ◌∙◌}
-use native.Mathlib.Omega.{arith}
-use native.Mathlib.Numerals.{add-one}
-use Prim.Native.Nat.{ℕ, suc, ◌+◌, ◌*◌, ◌≤◌, ◌<◌, ◌-◌}
-use borrow.Author.Tests.{ne_eqb}
-use lib.ListN.{length, length-set, set}
+use mathlib.Core.Path.{◌≡◌}
+use Prim.Native.Nat.{ℕ, ◌*◌, ◌≤◌, ◌-◌}
+use lib.ListN.{length}
 use lib.Dec.{eqb}
-use Rattle.laws.proofs.MarkLaws.{paint_start, paint_turn, paint_back, paint_none}
-use Rattle.laws.proofs.OrbitLaws.{iterate_in, iterate_next}
-use Rattle.laws.proofs.LowestLaws.{none_start, none_next}
 use Rattle.laws.specs.Buffer.{front}
 use Rattle.laws.specs.Marks.{painted}
 use Rattle.laws.specs.Orbit.{iterate}
 use Rattle.laws.specs.Lowest.{None}
-use Rattle.side.proofs.SideLaws.{after_zero}
 use Rattle.side.specs.Successor.{after}
-use Rattle.side.specs.Edges.{Edges, edges, side_count}
-use Rattle.tile.proofs.OwnerLaws.{goes, apart}
-use borrow.Author.Rules.{rules}
+use Rattle.side.specs.Edges.{edges}
 use Rattle.tile.proofs.owners.paint.Given as goal
 
 abbrev pub invariant-loop-k : goal.invariant-loop-k

@@ -3,15 +3,13 @@
 use mathlib.Core.Path.{◌≡◌, refl, sym, ap, ◌∙◌}
 use native.Mathlib.Omega.{arith}
 use native.Mathlib.Numerals.{add-one}
-use Prim.Native.Nat.{◌+◌, ◌*◌, ◌≤◌, ◌<◌, ◌-◌}
-use lib.ListN.{length, length-set}
+use Prim.Native.Nat.{◌+◌, ◌≤◌, ◌<◌, ◌-◌}
+use lib.ListN.{length-set}
 use Rattle.laws.proofs.LowestLaws.{none_start}
 use Rattle.laws.proofs.MarkLaws.{tally_turn}
-use Rattle.laws.specs.Buffer.{front}
-use Rattle.laws.specs.Lowest.{None}
 use Rattle.laws.specs.Marks.{count}
 use Rattle.refusal.specs.declared.Refusal.{Refusal}
-use Rattle.refusal.specs.Order.{fine, refuses}
+use Rattle.refusal.specs.Order.{fine}
 use Rattle.refusal.proofs.OrderLaws.{on_next, found, all_fine}
 use Rattle.side.specs.Successor.{after}
 use Rattle.side.specs.Edges.{Edges, edges, side_count}
@@ -19,7 +17,6 @@ use Rattle.side.proofs.SideLaws.{after-at_most}
 use Rattle.tile.specs.Check.{edge_side_refusal}
 use Rattle.tile.proofs.OwnerLaws.{tally_cleared, tally_whole}
 use Rattle.tile.proofs.SuccessorLaws.{side_fine, side_refused}
-use borrow.Author.Rules.{rules}
 use Rattle.tile.proofs.owners.tally.Goals as goal
 use Rattle.tile.proofs.owners.tally.Goals.{Else-u-eq0, Start}
 

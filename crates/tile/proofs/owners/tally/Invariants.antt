@@ -1,23 +1,13 @@
-use mathlib.Core.Path.{◌≡◌, refl, sym, ap, ◌∙◌}
-use native.Mathlib.Omega.{arith}
-use native.Mathlib.Numerals.{add-one}
-use Prim.Native.Nat.{◌+◌, ◌*◌, ◌≤◌, ◌<◌, ◌-◌}
-use lib.ListN.{length, length-set}
-use Rattle.laws.proofs.LowestLaws.{none_start}
-use Rattle.laws.proofs.MarkLaws.{tally_turn}
+use mathlib.Core.Path.{◌≡◌}
+use Prim.Native.Nat.{◌*◌, ◌≤◌, ◌-◌}
+use lib.ListN.{length}
 use Rattle.laws.specs.Buffer.{front}
 use Rattle.laws.specs.Lowest.{None}
 use Rattle.laws.specs.Marks.{count}
-use Rattle.refusal.specs.declared.Refusal.{Refusal}
-use Rattle.refusal.specs.Order.{fine, refuses}
-use Rattle.refusal.proofs.OrderLaws.{on_next, found, all_fine}
+use Rattle.refusal.specs.Order.{refuses}
 use Rattle.side.specs.Successor.{after}
-use Rattle.side.specs.Edges.{Edges, edges, side_count}
-use Rattle.side.proofs.SideLaws.{after-at_most}
+use Rattle.side.specs.Edges.{edges}
 use Rattle.tile.specs.Check.{edge_side_refusal}
-use Rattle.tile.proofs.OwnerLaws.{tally_cleared, tally_whole}
-use Rattle.tile.proofs.SuccessorLaws.{side_fine, side_refused}
-use borrow.Author.Rules.{rules}
 use Rattle.tile.proofs.owners.tally.Given as goal
 
 abbrev pub invariant-loop-i : goal.invariant-loop-i

@@ -1,8 +1,7 @@
 -- `tile::paths::count_moves` meets its contract. The loop's invariant: what is left to do gives the whole count, and s is a side or 0.
 use mathlib.Core.Path.{◌≡◌, refl, ap, ◌∙◌}
 use native.Mathlib.Omega.{arith}
-use Prim.Native.Nat.{ℕ, ◌*◌, ◌-◌, ◌≤◌}
-use lib.ListN.{length}
+use Prim.Native.Nat.{ℕ, ◌-◌}
 use Rattle.side.specs.Edges.{edges, side_count}
 use Rattle.tile.specs.Walk.{moves, moves_from}
 use Rattle.tile.specs.Serving.Stages.{in_full}
@@ -10,7 +9,6 @@ use Rattle.tile.specs.declared.Walked.TheVariants.{Refused}
 use Rattle.tile.proofs.WalkLaws.{stops_here, back_home, moves_on, stays_open}
 use Rattle.tile.proofs.SuccessorLaws.{goes_to}
 use Rattle.side.proofs.SideLaws.{after-at_most}
-use borrow.Author.Rules.{rules}
 use Rattle.tile.proofs.paths.count_moves.Goals as goal
 
 pub loop-k-init : goal.loop-k-init

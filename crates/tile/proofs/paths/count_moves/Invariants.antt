@@ -1,15 +1,8 @@
-use mathlib.Core.Path.{◌≡◌, refl, ap, ◌∙◌}
-use native.Mathlib.Omega.{arith}
-use Prim.Native.Nat.{ℕ, ◌*◌, ◌-◌, ◌≤◌}
+use mathlib.Core.Path.{◌≡◌}
+use Prim.Native.Nat.{◌*◌, ◌-◌, ◌≤◌}
 use lib.ListN.{length}
-use Rattle.side.specs.Edges.{edges, side_count}
+use Rattle.side.specs.Edges.{edges}
 use Rattle.tile.specs.Walk.{moves, moves_from}
-use Rattle.tile.specs.Serving.Stages.{in_full}
-use Rattle.tile.specs.declared.Walked.TheVariants.{Refused}
-use Rattle.tile.proofs.WalkLaws.{stops_here, back_home, moves_on, stays_open}
-use Rattle.tile.proofs.SuccessorLaws.{goes_to}
-use Rattle.side.proofs.SideLaws.{after-at_most}
-use borrow.Author.Rules.{rules}
 use Rattle.tile.proofs.paths.count_moves.Given as goal
 
 abbrev pub invariant-loop-k : goal.invariant-loop-k

@@ -1,5 +1,4 @@
 -- `tile::paths::stuck_at` meets its contract: 22 has the edge row as place, the others the side.
-use borrow.Author.Rules.{rules}
 use borrow.Author.Tests.{eq-eqb, ne_eqb}
 use Rattle.tile.proofs.paths.stuck_at.Goals as goal
 

@@ -4,7 +4,6 @@ use lib.ListN.{length}
 use Rattle.side.specs.Edges.{Edges, edges}
 use Rattle.tile.specs.Walk.{moves}
 use Rattle.tile.proofs.WalkLaws.{too_short, has_room, steps_back, refused_anyway}
-use borrow.Author.Rules.{rules}
 use Rattle.tile.proofs.paths.walk_from.Goals as goal
 use Rattle.tile.proofs.paths.walk_from.Goals.{Start}
 

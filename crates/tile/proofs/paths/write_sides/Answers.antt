@@ -1,16 +1,14 @@
 -- `tile::paths::write_sides` meets its contract. The loop's invariant: the sides of the moves made are written, the rest of the output is as it was.
 use mathlib.Core.Path.{◌≡◌, refl}
 use native.Mathlib.Omega.{arith}
-use Prim.Native.Nat.{ℕ, ◌*◌, ◌-◌, ◌≤◌, ◌<◌}
+use Prim.Native.Nat.{ℕ, ◌-◌, ◌<◌}
 use lib.ListN.{length, length-set}
 use Rattle.laws.proofs.BufferLaws.{front_next}
 use Rattle.laws.proofs.OrbitLaws.{iterate_next}
-use Rattle.laws.specs.Buffer.{front}
 use Rattle.laws.specs.Orbit.{iterate}
 use Rattle.side.proofs.SideLaws.{after-at_most}
 use Rattle.side.specs.Successor.{after}
 use Rattle.side.specs.Edges.{edges}
-use borrow.Author.Rules.{rules}
 use Rattle.tile.proofs.paths.write_sides.Goals as goal
 
 pub loop-j-init : goal.loop-j-init

@@ -1,15 +1,10 @@
-use mathlib.Core.Path.{◌≡◌, refl}
-use native.Mathlib.Omega.{arith}
-use Prim.Native.Nat.{ℕ, ◌*◌, ◌-◌, ◌≤◌, ◌<◌}
-use lib.ListN.{length, length-set}
-use Rattle.laws.proofs.BufferLaws.{front_next}
-use Rattle.laws.proofs.OrbitLaws.{iterate_next}
+use mathlib.Core.Path.{◌≡◌}
+use Prim.Native.Nat.{ℕ, ◌*◌, ◌-◌, ◌≤◌}
+use lib.ListN.{length}
 use Rattle.laws.specs.Buffer.{front}
 use Rattle.laws.specs.Orbit.{iterate}
-use Rattle.side.proofs.SideLaws.{after-at_most}
 use Rattle.side.specs.Successor.{after}
 use Rattle.side.specs.Edges.{edges}
-use borrow.Author.Rules.{rules}
 use Rattle.tile.proofs.paths.write_sides.Given as goal
 
 abbrev pub invariant-loop-j : goal.invariant-loop-j

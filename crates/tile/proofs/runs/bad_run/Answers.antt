@@ -2,7 +2,6 @@
 use mathlib.Core.Path.{◌∙◌}
 use Rattle.laws.specs.Lowest.{lesser}
 use Rattle.tile.proofs.RunLaws.{runs_judged}
-use borrow.Author.Rules.{rules}
 use Rattle.tile.proofs.runs.bad_run.Goals as goal
 
 pub returns : goal.returns

@@ -1,13 +1,12 @@
 -- `tile::runs::lowest_misplaced` meets its contract. The loop's invariant: the least face of the rows passed that begin a run elsewhere.
 use mathlib.Core.Path.{◌≡◌, refl, ap, ◌∙◌}
 use native.Mathlib.Omega.{arith}
-use Prim.Native.Nat.{◌≤◌, ◌-◌}
+use Prim.Native.Nat.{◌-◌}
 use lib.ListN.{length}
 use Rattle.laws.proofs.LeastLaws.{least_next}
 use Rattle.laws.specs.Lowest.{least}
 use Rattle.laws.specs.Orbit.{entry}
 use Rattle.tile.specs.Serving.Stages.{begins_elsewhere}
-use borrow.Author.Rules.{rules}
 use Rattle.tile.proofs.runs.lowest_misplaced.Goals as goal
 
 pub loop-i-init : goal.loop-i-init

@@ -1,12 +1,9 @@
-use mathlib.Core.Path.{◌≡◌, refl, ap, ◌∙◌}
-use native.Mathlib.Omega.{arith}
+use mathlib.Core.Path.{◌≡◌}
 use Prim.Native.Nat.{◌≤◌, ◌-◌}
 use lib.ListN.{length}
-use Rattle.laws.proofs.LeastLaws.{least_next}
 use Rattle.laws.specs.Lowest.{least}
 use Rattle.laws.specs.Orbit.{entry}
 use Rattle.tile.specs.Serving.Stages.{begins_elsewhere}
-use borrow.Author.Rules.{rules}
 use Rattle.tile.proofs.runs.lowest_misplaced.Given as goal
 
 abbrev pub invariant-loop-i : goal.invariant-loop-i

@@ -1,12 +1,10 @@
 -- `tile::runs::lowest_pointing_away` meets its contract. The loop's invariant: none of the faces passed points away.
 use native.Mathlib.Omega.{arith}
-use Prim.Native.Nat.{◌≤◌, ◌-◌}
+use Prim.Native.Nat.{◌-◌}
 use lib.ListN.{length}
 use Rattle.laws.proofs.LowestLaws.{none_start, none_next, lowest_next, lowest_ended}
-use Rattle.laws.specs.Lowest.{None}
 use Rattle.tile.proofs.RunLaws.{points_away_lem, points_home}
 use Rattle.tile.specs.Serving.Stages.{points_away}
-use borrow.Author.Rules.{rules}
 use Rattle.tile.proofs.runs.lowest_pointing_away.Goals as goal
 
 pub loop-i-init : goal.loop-i-init

@@ -1,7 +1,6 @@
 -- `tile::runs::misplaced` meets its contract: the three answers at a ring row.
 use native.Mathlib.Omega.{arith}
 use Rattle.tile.proofs.RunLaws.{goes_on_run, begins_here, begins_elsewhere_lem}
-use borrow.Author.Rules.{rules}
 use Rattle.tile.proofs.runs.misplaced.Goals as goal
 
 pub overflow_cast-face : goal.overflow_cast-face

@@ -1,5 +1,4 @@
 -- `tile::sizes::sizes_wrong` meets its contract: the parts of `sizes_wrong` in turn.
-use borrow.Author.Rules.{rules}
 use mathlib.Core.Path.{refl}
 use Rattle.tile.proofs.JoinedTests.{or_second}
 use borrow.Author.Tests.{eq-eqb, ne_eqb}

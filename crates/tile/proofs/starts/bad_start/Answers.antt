@@ -4,13 +4,11 @@ use mathlib.Core.Bool.{Bool}
 use mathlib.Core.List.{List}
 use native.Mathlib.Omega.{arith}
 use native.Mathlib.Numerals.{add-one}
-use Prim.Native.Nat.{ℕ, suc, ◌+◌, ◌≤◌, ◌-◌}
+use Prim.Native.Nat.{ℕ, suc, ◌+◌, ◌-◌}
 use lib.ListN.{length, get_or}
 use Rattle.laws.proofs.LowestLaws.{none_start, none_next, lowest_next, lowest_ended}
-use Rattle.laws.specs.Lowest.{None}
 use Rattle.laws.specs.Orbit.{entry}
 use Rattle.tile.specs.Serving.Stages.{start_missing}
-use borrow.Author.Rules.{rules}
 use Rattle.tile.proofs.starts.bad_start.Invariants.{wrong}
 use Rattle.tile.proofs.starts.bad_start.Goals as goal
 

@@ -1,5 +1,4 @@
 -- `tile::starts::has_no_start` meets its contract: each answer is the branch of the definition with the tests that led to it.
-use borrow.Author.Rules.{rules}
 use Rattle.tile.specs.Serving.Stages.{start_missing}
 use Rattle.tile.proofs.starts.has_no_start.Goals as goal
 

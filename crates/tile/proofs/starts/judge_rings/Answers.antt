@@ -5,7 +5,6 @@ use Rattle.refusal.specs.declared.Refusal.{Refusal}
 use Rattle.refusal.proofs.OrderLaws.{at_first, at_second, at_third, at_fourth, located_ends, located_passes}
 use Rattle.refusal.specs.Order.{located}
 use Rattle.tile.specs.Serving.Stages.{ring_tests}
-use borrow.Author.Rules.{rules}
 use Rattle.tile.proofs.starts.judge_rings.Goals as goal
 
 pub returns-then-a-ne0 : goal.returns-then-a-ne0

@@ -6,7 +6,6 @@ use native.Mathlib.Omega.{arith}
 use Rattle.side.specs.Edges.{left}
 use Rattle.side.proofs.SideLaws.{not-outside}
 use Rattle.tile.specs.Columns.{side_with}
-use borrow.Author.Rules.{rules}
 use borrow.Author.Tests.{eq-eqb, ne_eqb}
 use Rattle.tile.proofs.starts.side_with.Goals as goal
 use Rattle.tile.proofs.starts.side_with.Goals.{After-row-2}
@@ -23,8 +22,8 @@ returns-then-row-face c =
     simp (eq-eqb _ _ c.if-row-face.true, ← c.row.ensures, c.if-is_outside.false, ← c.is_outside.ensures)
 
 -- where e is an edge whose right side has another face, the left side decides
-left-decides : (c : After-row-2) → side_with c.args.edges c.args.right_face.now c.args.left_face.now c.args.face c.args.e ≡ cond (eqb c.row-2.result c.args.face) (left c.args.e) 0
-left-decides c =
+left_decides : (c : After-row-2) → side_with c.args.edges c.args.right_face.now c.args.left_face.now c.args.face c.args.e ≡ cond (eqb c.row-2.result c.args.face) (left c.args.e) 0
+left_decides c =
     simp (
       ← c.row-2.ensures,
       ne_eqb _ _ c.if-row-face.false,
@@ -34,7 +33,7 @@ left-decides c =
     )
 
 pub returns-then-row-face-2 : goal.returns-then-row-face-2
-returns-then-row-face-2 c = rw (left-decides (goal.at.returns-then-row-face-2 c).After-row-2, eq-eqb _ _ c.if-row-face-2.true)
+returns-then-row-face-2 c = rw (left_decides (goal.at.returns-then-row-face-2 c).After-row-2, eq-eqb _ _ c.if-row-face-2.true)
 
 pub returns : goal.returns
-returns c = rw (left-decides (goal.at.returns c).After-row-2, ne_eqb _ _ c.if-row-face-2.false)
+returns c = rw (left_decides (goal.at.returns c).After-row-2, ne_eqb _ _ c.if-row-face-2.false)

@@ -1,6 +1,5 @@
 -- `tile::successors::choose_side` meets its contract.
 use borrow.Author.Tests.{eq-eqb, ne_eqb}
-use borrow.Author.Rules.{rules}
 use Rattle.tile.proofs.successors.choose_side.Goals as goal
 
 pub returns-then-left_face-face : goal.returns-then-left_face-face

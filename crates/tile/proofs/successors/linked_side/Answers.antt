@@ -3,7 +3,6 @@ use native.Mathlib.Omega.{arith}
 use Rattle.laws.proofs.EntryLaws.{entry_inside}
 use Rattle.side.specs.Edges.{edges}
 use Rattle.tile.proofs.SuccessorLaws.{no_link, link_past, chosen_side}
-use borrow.Author.Rules.{rules}
 use Rattle.tile.proofs.successors.linked_side.Goals as goal
 
 pub returns-then-e-eq0 : goal.returns-then-e-eq0

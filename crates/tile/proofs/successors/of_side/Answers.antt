@@ -3,7 +3,6 @@ use native.Mathlib.Omega.{arith}
 use borrow.Author.Tests.{eq-eqb, ne_eqb}
 use Rattle.laws.proofs.EntryLaws.{entry_inside}
 use Rattle.side.specs.Edges.{edge_of}
-use borrow.Author.Rules.{rules}
 use Rattle.tile.proofs.successors.of_side.Goals as goal
 
 pub returns-then-s-eq1 : goal.returns-then-s-eq1

@@ -4,7 +4,6 @@ use Rattle.side.specs.Edges.{edges}
 use Rattle.side.specs.Successor.{after}
 use Rattle.side.proofs.SideLaws.{after_zero}
 use Rattle.tile.proofs.SuccessorLaws.{followed}
-use borrow.Author.Rules.{rules}
 use Rattle.tile.proofs.successors.side_after.Goals as goal
 
 pub returns-then-s-eq0 : goal.returns-then-s-eq0
