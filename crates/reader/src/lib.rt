@@ -1,5 +1,5 @@
-// A header reader: it holds the file and its place in it, and gives one column at each step. The work is done by covered functions on
-// the slice and the number; what takes, makes or moves a reader is thin, and proved by hand.
+// A header reader: it holds the file and its place in it, and gives one column at each step. The work is done by functions on
+// the slice and the number; what takes, makes or moves a reader is thin.
 #![tactic(auto)]
 
 ghost use Rattle.std.specs.Prelude.{◌≡◌};
@@ -33,7 +33,7 @@ fn place_after(step: Step, place: usize) -> usize
     }
 }
 
-// The whole of a step on the slice and the number: covered, so that the reader's own step is thin.
+// The whole of a step on the slice and the number, so that the reader's own step is thin.
 fn step_at(file: &[u8], place: usize) -> Moved
     ensures { result ≡ moved_from file.now place }
 {
