@@ -1,8 +1,8 @@
 #!/usr/bin/env python3
 """edits.py: says which must-fail edits no longer fit the sources (an `old:` line that is not there, or there twice), without proving anything;
 `rt ci` says the same after half an hour.
-edits.py shown: after `rt ci` or `rt must-fail`, the first thing that each edit was refused for. One that is refused because a name is not known or
-a text cannot be read shows nothing about what is promised, and is named.
+edits.py shown LOG: of a log of `rt ci` or `rt must-fail`, the first thing that each edit was refused for. One that is refused because a name is not
+known or a text cannot be read shows nothing about what is promised, and is named.
 Run it in the project's root."""
 import pathlib
 import re
@@ -31,17 +31,18 @@ def fit():
     return bad
 
 
-def shown():
-    bad = 0
-    for edit in EDITS:
-        log = pathlib.Path("target/must-fail", edit.parts[1], edit.stem, ".log")
-        errors = [line for line in log.read_text().split("\n") if ": error" in line] if log.exists() else []
-        first = re.sub(r"^.*?: error(\[[^]]*\])?: ", "", errors[0])[:160] if errors else "no error" if log.exists() else "not tried"
-        unread = not errors or UNREAD.search(first)
+def shown(log):
+    bad = tried = 0
+    for line in pathlib.Path(log).read_text(errors="replace").split("\n"):
+        m = re.match(r"rt: must-fail (\S+)\.edit: (.*)$", line)
+        if not m:
+            continue
+        tried += 1
+        unread = not m[2].startswith("refused, as it must be: ") or UNREAD.search(m[2])
         bad += bool(unread)
-        print(f"{'LOOK ' if unread else ''}{edit.parts[1]}/{edit.stem}: {first}")
-    print(f"{bad} to look at")
-    return bad
+        print(f"{'LOOK ' if unread else ''}{m[1]}: {m[2]}")
+    print(f"{tried} tried, {bad} to look at")
+    return bad or tried != len(EDITS)
 
 
-sys.exit((shown() if sys.argv[1:] == ["shown"] else fit()) != 0)
+sys.exit((shown(sys.argv[2]) if sys.argv[1:2] == ["shown"] else fit()) != 0)
