@@ -1,5 +1,5 @@
 -- `report::ring_line` meets its contract: four pieces, one behind the other, are the line, and it fits.
-use mathlib.Core.List.{◌∷◌, append_assoc}
+use mathlib.Core.List.{[], ◌∷◌, append_assoc}
 use mathlib.Core.Path.{refl}
 use borrow.Author.Tests.{lt-ltb}
 use Rattle.laws.proofs.PieceLaws.{begun_none, begun_more}
