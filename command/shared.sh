@@ -66,22 +66,20 @@ trap 'exit 143' TERM
 # ---- the kit
 
 find_kit() {
+    machine=$(uname -m)
+    [ "$machine" = x86_64 ] || fail "the program and the Rattle kit are for x86-64, and this machine is $(shown "$machine")"
     command -v rt >/dev/null || fail "the Rattle kit's command rt is not there"
     guide=$(rt doc 2>/dev/null) || fail "rt doc does not say where the kit is"
-    kit=$(cd "${guide%/*}/.." && pwd -P) || fail "there is no kit where rt doc says"
-    machine=$(uname -m)
+    kit=$(cd "${guide%/*}" && pwd -P) || fail "there is no kit where rt doc says"
     { read -r identity <"$kit/KIT-ID"; } 2>/dev/null || identity=$(rt version) || fail "rt version does not say which kit it is"
     identity="$identity on $machine"
-    # as the kit runs programs: they are for x86-64, and on another processor the kit has an emulator beside its compiler
-    libraries=$kit/on/$machine/toolchain/lib
-    emulator=$kit/on/$machine/toolchain/bin/qemu-x86_64
-    [ -x "$emulator" ] || emulator=''
+    libraries=$kit/toolchain/lib # the loader and the C library that programs are linked with
 }
 
 # Runs $program in a directory, with nothing of this run's environment: $said is what it writes.
 hear() { # DIR
     {
-        said=$(cd -P -- "$1" && exec env -i ${emulator:+"$emulator"} "$libraries/ld-linux-x86-64.so.2" --library-path "$libraries" "$program")
+        said=$(cd -P -- "$1" && exec env -i "$libraries/ld-linux-x86-64.so.2" --library-path "$libraries" "$program")
     } </dev/null 2>/dev/null
 }
 
@@ -97,25 +95,36 @@ crates_of() { # CRATE
             for (k = 1; k <= m; k++) visit(a[k])
             print n
         }
-        { sub(/#.*/, ""); i = index($0, ":"); if (i) { n = substr($0, 1, i - 1); gsub(/[ \t]/, "", n); deps[n] = substr($0, i + 1) } }
+        { sub(/#.*/, ""); i = index($0, ":"); if (i) { split(substr($0, 1, i - 1), said, " "); deps[said[1]] = substr($0, i + 1) } }
         END { visit(wanted) }' "$project/crates.txt"
 }
 
-# The digest of every file that the crate's program is built from and tried with. There is none where one cannot be read, or is a link:
-# the kit does not see what a link leads to.
+# What the crate's program is built from and tried with, for `find` in the project's folder.
+parts_of() { # CRATE
+    echo crates.txt
+    for crate in $(crates_of "$1"); do
+        for part in src specs proofs stdin stdout args status data; do
+            [ ! -e "$project/crates/$crate/$part" ] || echo "crates/$crate/$part"
+        done
+    done
+}
+
+# The digest of each of these files. There is none where one cannot be read, or is a link: the kit does not see what a link leads to.
 sources_of() { # CRATE
     (
         cd "$project" || exit 1
-        crates=$(crates_of "$1")
-        set -- crates.txt
-        for crate in $crates; do
-            for part in src specs proofs stdin stdout args data; do
-                [ ! -e "crates/$crate/$part" ] || set -- "$@" "crates/$crate/$part"
-            done
-        done
-        list=$(find "$@" -type l -exec false {} + -o -type f -exec sha256sum {} +) || exit 1
+        list=$(find $(parts_of "$1") -type l -exec false {} + -o -type f -exec sha256sum {} +) || exit 1
         list=$(printf '%s\n' "$list" | LC_ALL=C sort | sha256sum) || exit 1
         printf '%s\n' "${list%% *}"
+    ) 2>/dev/null
+}
+
+# When the system last changed each file and folder of these crates, but for what the kit makes: no command can set that time.
+moments_of() { # CRATE
+    (
+        cd "$project" || exit 1
+        list=$(find crates.txt $(crates_of "$1" | sed 's,^,crates/,') -regex 'crates/[^/]*/out' -prune -o -printf '%i %C@ %p\n') || exit 1
+        printf '%s\n' "$list" | LC_ALL=C sort | sha256sum
     ) 2>/dev/null
 }
 
@@ -135,7 +144,7 @@ up_to_date() { # CRATE
 # ---- proving and building
 
 show_progress() { # CRATE waiting|proving
-    sh "$project/command/progress.sh" $$ "$command" "$state/$1.log" "$(crates_of "$1" | wc -l)" "$2" 9<&- &
+    sh "$project/command/progress.sh" $$ "$command" "$state/$1.log" "$2" $(crates_of "$1") 9<&- &
     shower=$!
 }
 end_progress() {
@@ -150,10 +159,18 @@ ready() { # CRATE
     up_to_date "$1" || build "$1"
 }
 
-# One run at a time asks the kit. The lock is the kernel's, on the folder of the crates, and is held by the kit's processes too:
-# whoever is killed, it is free when nothing works in target/ any more.
+# The folders that the kit makes its work in, crates/*/out: whether they can be written.
+make_outs() { # CRATE
+    for crate in $(crates_of "$1"); do
+        set -- "$project/crates/$crate"
+        [ ! -d "$1" ] || { mkdir -p "$1/out" && [ -w "$1" ] && [ -w "$1/out" ]; } || return
+    done
+}
+
+# One run at a time asks the kit. The lock is the kernel's, on the folder of the crates, and is held by the kit's command too: whoever is
+# killed, it is free when nothing works in crates/*/out any more.
 build() { # CRATE
-    { mkdir -p "$state" && [ -w "$state" ] && [ -w "$project/target" ]; } 2>/dev/null ||
+    { mkdir -p "$state" && [ -w "$state" ] && make_outs "$1"; } 2>/dev/null ||
         fail "the program is not built from these sources yet, and $(shown "$project") cannot be written"
     for needed in flock setsid; do
         command -v "$needed" >/dev/null || fail "the program is to be built, and the command $needed (util-linux) is not there"
@@ -175,38 +192,45 @@ build() { # CRATE
 }
 
 # Asks the kit to prove and build, and keeps a copy of the program with the record of its sources: the sources as they were before, only
-# where they are the same after, and only where the kit, asked again, finds every crate proved as it stands. So sources that were others for
-# a while are not taken for those that were proved.
+# where they are the same after and nothing was written meanwhile, and only where the kit, asked again, finds the program proved as it stands.
+# So sources that were others for a while are not taken for those that were proved.
 prove() { # CRATE
     log=$state/$1.log
-    [ -f "$project/target/bin/$1" ] || rm -f "$project/target/stamp/$1"
+    linked=$project/crates/$1/out/$1
+    [ -f "$linked" ] || rm -f "$linked.stamp"
     { : >"$log"; } 2>/dev/null || fail "$(shown "$log") cannot be written"
+    moments=$(moments_of "$1") && sources=$(sources_of "$1") || fail "the sources of the program cannot be read, or one is a link"
     show_progress "$1" proving
-    setsid sh "$project/command/prove.sh" $$ "$project" "$1" "$log.again" >"$log" 2>&1 &
+    setsid sh "$project/command/prove.sh" $$ "$project/crates/$1" "$log.again" >"$log" 2>&1 </dev/null &
     job=$!
     wait "$job"
     proved=$?
     job=''
     end_progress
     if [ "$proved" -ne 0 ]; then
-        tail -n 20 "$log" >&2
+        cat "$log" "$log.again" | tail -n 20 >&2
         fail "the program was not proved and built; the lines above say why, target/command/$1.log has all"
     fi
     trouble="the sources change while they are being proved"
-    if sed -n 's/^rt: [A-Za-z0-9_]* proved (//p' "$log.again" | grep -qv '^unchanged'; then return; fi
+    grep -q '^rt: nothing has changed since the last proved build' "$log.again" || return
     keep "$1"
 }
 
 keep() { # CRATE
     copy=$state/$1.new
-    { cp "$project/target/bin/$1" "$copy" && digest_of "$copy"; } 2>/dev/null || fail "the program that was built could not be kept in target/command"
+    { cp "$linked" "$copy" && digest_of "$copy"; } 2>/dev/null || fail "the program that was built could not be kept in target/command"
     program=$copy
     if ! hear "$project/crates/$1/data" || [ "$said" != "$(cat "$project/crates/$1/stdout")" ]; then
         trouble="the program as built does not write what crates/$1/stdout has"
-        rm -f "$project/target/stamp/$1" # what stands in target/bin is not what was proved and tried: the next turn builds it anew
+        rm -f "$linked.stamp" # what stands in out/ is not what was proved and tried: the next turn builds it anew
         return
     fi
     [ "$(sources_of "$1")" = "$sources" ] || return
+    if [ "$(moments_of "$1")" != "$moments" ]; then
+        # the same again, but not all the while: what the kit took them for is not known, and the next turn has it look anew
+        (cd "$project/crates" && for crate in $(crates_of "$1"); do rm -f "$crate/out/rlib/stamp" "$crate/out/$crate.stamp"; done)
+        return
+    fi
     {
         chmod 755 "$copy" && mv -f "$copy" "$state/$1-$digest" &&
             printf '%s\n' "$sources" "$identity" "$digest" >"$state/$1.record" && mv -f "$state/$1.record" "$state/$1"

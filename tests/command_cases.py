@@ -30,20 +30,24 @@ NOBODY = ["setpriv", "--reuid=65534", "--regid=65534", "--clear-groups"] if ROOT
 
 
 def crates_of(wanted):
-    """Which crates of crates.txt a crate stands on, and itself; and all others."""
+    """Which crates of crates.txt a crate stands on, and itself, in the order in which the kit proves them; and all others."""
     lines = [text.split("#")[0].partition(":") for text in (CHECKOUT / "crates.txt").read_text().splitlines()]
-    deps = {name.strip(): after.split() for name, colon, after in lines if colon}
-    reached, todo = [], [wanted]
-    while todo:
-        crate = todo.pop()
+    deps = {name.split()[0]: after.split() for name, colon, after in lines if colon}
+    reached = []
+
+    def reach(crate):
         if crate in deps and crate not in reached:
+            for dep in deps[crate]:
+                reach(dep)
             reached.append(crate)
-            todo += deps[crate]
+
+    reach(wanted)
     return reached, [crate for crate in deps if crate not in reached]
 
 
 UNDER, OTHERS = crates_of("tilecheck")
 ALL = len(UNDER)
+NUMBER = UNDER.index("number") + 1  # which of them the acted kit proves
 
 work = pathlib.Path(tempfile.mkdtemp(prefix="command_cases."))
 work.chmod(0o755)
@@ -109,46 +113,63 @@ def bind(path):
     socket.socket(socket.AF_UNIX).bind(path)
 
 
-def project(name, built=True, rlib=False):
+def kept_program():
+    """The program of the checkout, as the command keeps it."""
+    sources, kit, digest = (CHECKOUT / "target/command/tilecheck").read_text().split("\n")[:3]
+    return CHECKOUT / "target/command" / f"tilecheck-{digest}"
+
+
+def project(name, built=True, libraries=False):
     """A copy of the project, with what is built of it."""
     to = work / name
     to.mkdir()
     shutil.copy(CHECKOUT / "tilecheck", to)
     shutil.copy(CHECKOUT / "crates.txt", to)
     shutil.copytree(CHECKOUT / "command", to / "command")
-    subprocess.run(["cp", "-R", str(CHECKOUT / "crates"), str(to / "crates")], check=True)
+    shutil.copytree(CHECKOUT / "crates", to / "crates", symlinks=True, ignore=shutil.ignore_patterns("out"))
     shutil.copytree(VECTORS / "mj21", to / "tests" / "vectors" / "mj21")
     (to / "target").mkdir()
-    for part in ["bin", "stamp", "command"] if built else []:
-        shutil.copytree(CHECKOUT / "target" / part, to / "target" / part)
-    if rlib:
-        (to / "target" / "rlib").mkdir()
-        for library in (CHECKOUT / "target" / "rlib").iterdir():
-            (to / "target" / "rlib" / library.name).symlink_to(library)
+    if built:
+        (to / "target/command").mkdir()
+        for part in [kept_program(), CHECKOUT / "target/command/tilecheck"]:
+            shutil.copy(part, to / "target/command")
+        (to / "crates/tilecheck/out").mkdir()
+        shutil.copy(kept_program(), to / "crates/tilecheck/out/tilecheck")
+        (to / "crates/tilecheck/out/tilecheck.stamp").write_text("another\n")
+    if libraries:
+        subprocess.run([real_kit, "run"], cwd=CHECKOUT / "crates/tilecheck", stdin=subprocess.DEVNULL, capture_output=True, check=True)
+        for crate in UNDER[:-1]:
+            shutil.copytree(CHECKOUT / "crates" / crate / "out/rlib", to / "crates" / crate / "out/rlib")
     return to
 
 
-# ---- the kit, acted: `rt check` does what the case wants and is counted; all else is the kit's own
+# ---- the kit, acted: `rt run` does what the case wants and is counted; all else is the kit's own
 
 ACTED = r"""#!/bin/sh
-[ "$1" = check ] || exec "$REAL_KIT" "$@"
-sum=$(find crates -type f -exec sha256sum {} + | sort | sha256sum)
-lines() { for crate in laws refusal side; do echo "rt: $crate proved (unchanged since it was last proved)"; done; }
-finish() { room=$(mktemp -d) && rmdir "$room" || exit 1; mkdir -p target/bin target/stamp; cp "$ACTED_PROGRAM" target/bin/tilecheck; echo "$sum" >target/stamp/tilecheck; echo "rt: tilecheck proved (1 s)"; exit 0; }
-if [ -e target/stamp/tilecheck ] && [ "$sum" = "$(cat target/stamp/tilecheck)" ]; then
-    lines
+[ "$1" = run ] || exec "$REAL_KIT" "$@"
+[ "${PWD##*/}" = tilecheck ] && cd ../.. || exit 2
+out=crates/tilecheck/out
+sum=$(find crates -name out -prune -o -type f -exec sha256sum {} + | sort | sha256sum)
+began() { echo "rt: chose --jobs 2 for $1"; }
+proved() { echo "logic=proved functions=1 native=nat,char,string logic-built=trusted libraries-built=trusted statements=trusted incremental=trusted"; }
+ran() { echo "rt: running out/tilecheck; to give it other input, run that file yourself"; echo "REFUSE edg 1 0"; exit 0; }
+finish() { room=$(mktemp -d) && rmdir "$room" || exit 1; mkdir -p $out; began tilecheck; cp "$ACTED_PROGRAM" $out/tilecheck; echo "$sum" >$out/tilecheck.stamp; proved; ran; }
+if [ -e $out/tilecheck.stamp ] && [ "$sum" = "$(cat $out/tilecheck.stamp)" ]; then
     echo again >>"$ACTED_LOG"
-    exit 0
+    echo "rt: nothing has changed since the last proved build, by out/tilecheck.stamp, so nothing is checked now"
+    ran
 fi
 echo check >>"$ACTED_LOG"
 case $ACTED in
-quick) lines; finish ;;
-slow) lines; sleep 1.5; echo "rt: number proved (2 s)"; sleep 1.5; finish ;;
-hang) lines; echo $$ >>"$ACTED_LOG.pids"; (trap '' INT TERM; echo half >target/bin/tilecheck; sleep 600) & echo $! >>"$ACTED_LOG.pids"; wait ;;
-fail) echo "crates/laws/src/lib.rt:1:1: error: it is not so"; echo "rt: FAILED: laws"; exit 1 ;;
-broken) mkdir -p target/bin target/stamp; [ -e target/stamp/tilecheck ] && exit 0; finish ;;
+quick) finish ;;
+slow) began number; sleep 1.5; proved; sleep 1.5; finish ;;
+hang) echo $$ >>"$ACTED_LOG.pids"; (trap '' INT TERM; mkdir -p $out; echo half >$out/tilecheck; sleep 600) & echo $! >>"$ACTED_LOG.pids"; wait ;;
+fail) echo "error: it is not so: src/lib.rt:1:1"; echo "rt: the library laws did not build, so nothing above it was checked"; exit 1 ;;
+broken) [ -e $out/tilecheck.stamp ] && { echo "rt: nothing has changed since the last proved build"; exit 0; }; finish ;;
 change-once) [ -e "$ACTED_LOG.changed" ] || echo '// a word more' >>crates/laws/src/lib.rt; : >"$ACTED_LOG.changed"; finish ;;
 others) [ -e "$ACTED_LOG.changed" ] || sum=others; : >"$ACTED_LOG.changed"; finish ;;
+back) [ -e "$ACTED_LOG.changed" ] || { cp -p crates/laws/src/lib.rt "$ACTED_LOG.was"; echo '// a word more' >>crates/laws/src/lib.rt; sleep 0.1; cp -p "$ACTED_LOG.was" crates/laws/src/lib.rt; }
+    : >"$ACTED_LOG.changed"; finish ;;
 change-always) echo '// a word more' >>crates/laws/src/lib.rt; finish ;;
 esac
 """
@@ -160,13 +181,12 @@ def acted(what, **more):
     (place / "rt").write_text(ACTED)
     (place / "rt").chmod(0o755)
     (place / "log").write_text("")
-    program = CHECKOUT / "target" / "bin" / "tilecheck"
     return {"PATH": f"{place}:{os.environ['PATH']}", "REAL_KIT": real_kit, "ACTED": what, "ACTED_LOG": str(place / "log"),
-            "ACTED_PROGRAM": str(program), **more}
+            "ACTED_PROGRAM": str(kept_program()), **more}
 
 
 def asked(env):
-    """How often the kit was asked to check."""
+    """How often the kit was asked, and had to prove something."""
     return pathlib.Path(env["ACTED_LOG"]).read_text().count("check")
 
 
@@ -373,9 +393,8 @@ for tmp in ["/none/such", "-p", "/dev/null", ""]:
          env=lambda tmp=tmp: acted("quick", TMPDIR=tmp), command=[str(work / f"tmp-{len(tmp)}" / "tilecheck")])
 if not shutil.which("rt", path="/usr/bin:/bin"):
     case("odd: no kit", lambda: tile("t"), ["t"], NOTHING, line("the Rattle kit's command rt is not there"), 2, env={"PATH": "/usr/bin:/bin"})
-if os.uname().machine == "x86_64":  # elsewhere the emulator gives the program a stack of its own
-    case("odd: a stack too small for the program", lambda: tile("t"), ["t"], NOTHING, line("the program could not be run: it ended with status [0-9]*"), 2,
-         before=["sh", "-c", 'ulimit -s 200 && exec "$@"', "sh"])
+case("odd: a stack too small for the program", lambda: tile("t"), ["t"], NOTHING, line("the program could not be run: it ended with status [0-9]*"), 2,
+     before=["sh", "-c", 'ulimit -s 200 && exec "$@"', "sh"])
 
 
 def unwritten(name, open_it, args=("t",), vector="mj21"):
@@ -512,13 +531,12 @@ def spoil(made, how):
 
 def other_kit(made, env):
     """A kit of another name, with what the real one has."""
-    kit = pathlib.Path(subprocess.run([real_kit, "doc"], capture_output=True, text=True, check=True).stdout.strip()).parent.parent
     new = pathlib.Path(env["ACTED_LOG"]).parent / "kit"
-    (new / "docs").mkdir(parents=True)
+    new.mkdir()
     (new / "KIT-ID").write_text("another-kit\n")
-    (new / "on").symlink_to(kit / "on")
+    (new / "toolchain").symlink_to(kit() / "toolchain")
     rt = pathlib.Path(env["ACTED_LOG"]).parent / "rt"
-    rt.write_text(ACTED.replace('exec "$REAL_KIT" "$@"', f"{{ echo '{new}/docs/START-HERE.md'; exit 0; }}"))
+    rt.write_text(ACTED.replace('exec "$REAL_KIT" "$@"', f"{{ echo '{new}/START-HERE.md'; exit 0; }}"))
 
 
 changed("built from: nothing changed", lambda made, env: None, 0)
@@ -538,9 +556,9 @@ changed("built from: the program cut", lambda made, env: spoil(made, lambda p: o
 changed("built from: the record cut", lambda made, env: os.truncate(made / "target/command/tilecheck", 70))
 changed("built from: no record, the kit's program as it was", lambda made, env: os.remove(made / "target/command/tilecheck"))
 changed("built from: no record, and the kit's program is not the one that was tried: it is built anew",
-        lambda made, env: (os.remove(made / "target/command/tilecheck"), os.truncate(made / "target/bin/tilecheck", 100)), 3, "broken")
+        lambda made, env: (os.remove(made / "target/command/tilecheck"), os.truncate(made / "crates/tilecheck/out/tilecheck", 100)), 3, "broken")
 changed("built from: no record, and the kit's program is gone: it is built anew",
-        lambda made, env: (os.remove(made / "target/command/tilecheck"), os.remove(made / "target/bin/tilecheck")), 1, "broken")
+        lambda made, env: (os.remove(made / "target/command/tilecheck"), os.remove(made / "crates/tilecheck/out/tilecheck")), 1, "broken")
 changed("built from: sources that change once while they are proved", lambda made, env: append(made / "crates/laws/src/lib.rt", "// a word\n"), 2, "change-once")
 
 
@@ -552,6 +570,7 @@ def same_length(path):
 
 
 changed("built from: sources that are others for a while, while they are proved", lambda made, env: append(made / "crates/laws/src/lib.rt", "// a word\n"), 2, "others")
+changed("built from: sources that are others for a while, and the kit does not see it", lambda made, env: append(made / "crates/laws/src/lib.rt", "// a word\n"), 2, "back")
 
 
 @of
@@ -581,8 +600,8 @@ def plain_lines():
     made = project("lines", built=False)
     tile("t")
     expect(run(["t"], env=acted("slow"), command=[str(made / "tilecheck")]), MJ21,
-           line(f"proving and building the program, .* all {ALL} crates take six to nine minutes")
-           + line(rf"4 of {ALL} crates proved: number \(2 s\)") + line(rf"5 of {ALL} crates proved: tilecheck \(1 s\)"), 0)
+           line(f"proving and building the program, .* all {ALL} crates take several minutes")
+           + line(rf"{NUMBER} of {ALL} crates proved, [0-9]+ s: number") + line(rf"{ALL} of {ALL} crates proved, [0-9]+ s: tilecheck"), 0)
 
 
 @of
@@ -602,7 +621,7 @@ def moving_line():
         pass
     assert (status, said) == (0, MJ21), (status, said)
     assert re.search(rb"\r\ntilecheck: |^tilecheck: ", told) is not None and told.count(b"\rtilecheck: ") >= 3 and told.count(b"\n") == 2, told
-    assert f"\rtilecheck: 3 of {ALL} crates proved, ".encode() in told and f"\rtilecheck: 5 of {ALL} crates proved, ".encode() in told, told
+    assert all(f"\rtilecheck: {n} of {ALL} crates proved, ".encode() in told for n in (NUMBER - 1, NUMBER, ALL)), told
 
 
 @of
@@ -611,7 +630,7 @@ def not_proved():
     made = project("refused", built=False)
     tile("t")
     expect(run(["t"], env=acted("fail"), command=[str(made / "tilecheck")]), NOTHING,
-           "crates/laws/src/lib.rt:1:1: error: it is not so\nrt: FAILED: laws\n" + line("the program was not proved and built; .*"), 2)
+           "error: it is not so: src/lib.rt:1:1\nrt: the library laws did not build, so nothing above it was checked\n" + line("the program was not proved and built; .*"), 2)
 
 
 # ---- side by side
@@ -645,11 +664,11 @@ def fifty_unbuilt():
 @of
 def fifty_changed():
     """side by side: 50 runs while the kit itself proves the program anew, its source just changed"""
-    made = project("fifty-changed", rlib=True)
+    made = project("fifty-changed", libraries=True)
     append(made / "crates/tilecheck/src/main.rt", "// a word\n")
     together(made / "tilecheck", {})
     log = (made / "target/command/tilecheck.log").read_text()
-    assert re.search(r"^rt: tilecheck proved \(\d+ s\)$", log, re.M) and log.count("unchanged") == ALL - 1, log
+    assert re.findall(r"^rt: chose --jobs \d+ for (.*)$", log, re.M) == ["tilecheck"] and len(re.findall("^logic=proved ", log, re.M)) == 1, log
 
 
 def pids_of(env):
@@ -753,13 +772,14 @@ say "$(printf '%s\\n' "$said" | wc -l)"
     expect(run(["t"], command=[str(made / "count")]), "4\n", NOTHING, 0)
 
 
+def kit():
+    return pathlib.Path(subprocess.run([real_kit, "doc"], capture_output=True, text=True, check=True).stdout.strip()).parent
+
+
 def program():
-    """The words that run the program as it is built, natively or under the kit's emulator."""
-    machine = os.uname().machine
-    kit = pathlib.Path(subprocess.run([real_kit, "doc"], capture_output=True, text=True, check=True).stdout.strip()).parent.parent
-    tools = kit / "on" / machine / "toolchain"
-    emulator = [str(tools / "bin" / "qemu-x86_64")] if (tools / "bin" / "qemu-x86_64").exists() else []
-    return [*emulator, str(tools / "lib" / "ld-linux-x86-64.so.2"), "--library-path", str(tools / "lib"), str(CHECKOUT / "target/bin/tilecheck")]
+    """The words that run the program as it is built."""
+    libraries = kit() / "toolchain/lib"
+    return [str(libraries / "ld-linux-x86-64.so.2"), "--library-path", str(libraries), str(kept_program())]
 
 
 def measure():
