@@ -68,9 +68,13 @@ trap 'exit 143' TERM
 find_kit() {
     machine=$(uname -m)
     [ "$machine" = x86_64 ] || fail "the program and the Rattle kit are for x86-64, and this machine is $(shown "$machine")"
-    command -v rt >/dev/null || fail "the Rattle kit's command rt is not there"
-    guide=$(rt doc 2>/dev/null) || fail "rt doc does not say where the kit is"
-    kit=$(cd "${guide%/*}" && pwd -P) || fail "there is no kit where rt doc says"
+    asked=$(command -v rt) || fail "the Rattle kit's command rt is not there"
+    # rt takes longer to say where its kit is than all else here: it is asked only where it does not stand in the kit itself
+    kit=$(readlink -f -- "$asked") && kit=${kit%/bin/rt}
+    if ! [ -f "$kit/KIT-ID" ] || ! [ -d "$kit/toolchain/lib" ]; then
+        guide=$(rt doc 2>/dev/null) || fail "rt doc does not say where the kit is"
+        kit=$(cd "${guide%/*}" && pwd -P) || fail "there is no kit where rt doc says"
+    fi
     { read -r identity <"$kit/KIT-ID"; } 2>/dev/null || identity=$(rt version) || fail "rt version does not say which kit it is"
     identity="$identity on $machine"
     libraries=$kit/toolchain/lib # the loader and the C library that programs are linked with

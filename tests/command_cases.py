@@ -6,6 +6,7 @@ the project is a copy in a temporary folder, so that nothing here changes the ch
     python3 tests/command_cases.py WORD...    those with one of the words in their name
     python3 tests/command_cases.py measure    the figures of docs/COMMAND.md: stack, memory and time
 """
+import functools
 import os
 import pathlib
 import re
@@ -178,10 +179,13 @@ esac
 def acted(what, **more):
     place = pathlib.Path(tempfile.mkdtemp(dir=work))
     place.chmod(0o755)
-    (place / "rt").write_text(ACTED)
-    (place / "rt").chmod(0o755)
+    (place / "bin").mkdir()
+    (place / "bin/rt").write_text(ACTED)
+    (place / "bin/rt").chmod(0o755)
+    shutil.copy(kit() / "KIT-ID", place)
+    (place / "toolchain").symlink_to(kit() / "toolchain")
     (place / "log").write_text("")
-    return {"PATH": f"{place}:{os.environ['PATH']}", "REAL_KIT": real_kit, "ACTED": what, "ACTED_LOG": str(place / "log"),
+    return {"PATH": f"{place}/bin:{os.environ['PATH']}", "REAL_KIT": real_kit, "ACTED": what, "ACTED_LOG": str(place / "log"),
             "ACTED_PROGRAM": str(kept_program()), **more}
 
 
@@ -393,6 +397,16 @@ for tmp in ["/none/such", "-p", "/dev/null", ""]:
          env=lambda tmp=tmp: acted("quick", TMPDIR=tmp), command=[str(work / f"tmp-{len(tmp)}" / "tilecheck")])
 if not shutil.which("rt", path="/usr/bin:/bin"):
     case("odd: no kit", lambda: tile("t"), ["t"], NOTHING, line("the Rattle kit's command rt is not there"), 2, env={"PATH": "/usr/bin:/bin"})
+def another_machine():
+    """A directory bin in which `uname` says another machine."""
+    os.mkdir("bin")
+    pathlib.Path("bin/uname").write_text("#!/bin/sh\necho aarch64\n")
+    os.chmod("bin/uname", 0o755)
+    tile("t")
+
+
+case("odd: a machine that is not x86-64", another_machine, ["t"], NOTHING, line("the program and the Rattle kit are for x86-64, and this machine is aarch64"), 2,
+     env=lambda: {"PATH": f"{os.getcwd()}/bin:{os.environ['PATH']}"})
 case("odd: a stack too small for the program", lambda: tile("t"), ["t"], NOTHING, line("the program could not be run: it ended with status [0-9]*"), 2,
      before=["sh", "-c", 'ulimit -s 200 && exec "$@"', "sh"])
 
@@ -531,12 +545,16 @@ def spoil(made, how):
 
 def other_kit(made, env):
     """A kit of another name, with what the real one has."""
-    new = pathlib.Path(env["ACTED_LOG"]).parent / "kit"
-    new.mkdir()
-    (new / "KIT-ID").write_text("another-kit\n")
-    (new / "toolchain").symlink_to(kit() / "toolchain")
-    rt = pathlib.Path(env["ACTED_LOG"]).parent / "rt"
-    rt.write_text(ACTED.replace('exec "$REAL_KIT" "$@"', f"{{ echo '{new}/START-HERE.md'; exit 0; }}"))
+    (pathlib.Path(env["ACTED_LOG"]).parent / "KIT-ID").write_text("another-kit\n")
+
+
+def elsewhere(made, env):
+    """A command rt that does not stand in its kit, and says where that is."""
+    rt = pathlib.Path(env["ACTED_LOG"]).parent / "bin/rt"
+    (rt.parent.parent / "kit").mkdir()
+    for part in ("KIT-ID", "toolchain"):
+        (rt.parent.parent / part).rename(rt.parent.parent / "kit" / part)
+    rt.write_text(ACTED.replace('exec "$REAL_KIT" "$@"', f"{{ echo '{rt.parent.parent}/kit/START-HERE.md'; exit 0; }}"))
 
 
 changed("built from: nothing changed", lambda made, env: None, 0)
@@ -550,6 +568,7 @@ changed("built from: a source gone", lambda made, env: some(made, "proofs/**/*.a
 changed("built from: crates.txt changed", lambda made, env: append(made / "crates.txt", "# a word\n"))
 changed("built from: a crate that the program does not stand on changed", lambda made, env: append(made / f"crates/{OTHERS[0]}/README", "a word\n"), 0)
 changed("built from: another kit", other_kit)
+changed("built from: the same kit, elsewhere", elsewhere, 0)
 changed("built from: the program changed", lambda made, env: spoil(made, lambda p: append(p, "x")))
 changed("built from: the program gone", lambda made, env: spoil(made, os.remove))
 changed("built from: the program cut", lambda made, env: spoil(made, lambda p: os.truncate(p, 100)))
@@ -772,6 +791,7 @@ say "$(printf '%s\\n' "$said" | wc -l)"
     expect(run(["t"], command=[str(made / "count")]), "4\n", NOTHING, 0)
 
 
+@functools.cache
 def kit():
     return pathlib.Path(subprocess.run([real_kit, "doc"], capture_output=True, text=True, check=True).stdout.strip()).parent
 

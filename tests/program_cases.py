@@ -255,5 +255,17 @@ for label, files, says in TILES:
                 case(f"{label}, reads of {f} interrupted from the {first}. on, {times} times", files, says if read else unread(f, files, says),
                      file=f, errno=errno.EINTR, times=times, **{"from": first})
 
+# --- an answer that cannot be written: the program ends with status 1, and says so on standard error
+
+for vector in ["mj21", "refuse-edg-20"]:
+    with open("/dev/full", "w") as full:
+        done = subprocess.run(runner + [program], cwd=VECTORS / vector, stdin=subprocess.DEVNULL, stdout=full, stderr=subprocess.PIPE, timeout=60)
+    told = done.stderr.decode(errors="replace")
+    if done.returncode == 1 and re.fullmatch("Error: .+\n", told):
+        passed += 1
+    else:
+        failed += 1
+        print(f"{vector}, to a full device: must end with status 1 and a line of Error, and ended with {done.returncode} and {told!r}")
+
 print(f"{passed} passed, {failed} failed")
 sys.exit(failed != 0 or passed == 0)
