@@ -123,11 +123,12 @@ sources_of() { # CRATE
     ) 2>/dev/null
 }
 
-# When the system last changed each file and folder of these crates, but for what the kit makes: no command can set that time.
+# When the system last changed each file and folder of these crates, but for what the kit makes and the edits that it is to refuse: no
+# command can set that time.
 moments_of() { # CRATE
     (
         cd "$project" || exit 1
-        list=$(find crates.txt $(crates_of "$1" | sed 's,^,crates/,') -regex 'crates/[^/]*/out' -prune -o -printf '%i %C@ %p\n') || exit 1
+        list=$(find crates.txt $(crates_of "$1" | sed 's,^,crates/,') -regex 'crates/[^/]*/\(out\|must-fail\)' -prune -o -printf '%i %C@ %p\n') || exit 1
         printf '%s\n' "$list" | LC_ALL=C sort | sha256sum
     ) 2>/dev/null
 }
