@@ -276,8 +276,7 @@ static double seconds(header_call header, const uint8_t *file, size_t size, int 
     return end - start;
 }
 
-/* The headers by two builds, each loaded at eight places of a page, the shortest of all: where the linker lays a loop moves its time, through
- * the emulator by much. */
+/* The headers by two builds, each loaded at eight places of a page, the shortest of all: where the linker lays a loop moves its time. */
 #define PLACES 8
 
 static header_call loaded(const char *folder, const char *build, int place) {
