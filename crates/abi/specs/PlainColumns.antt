@@ -1,8 +1,7 @@
 -- One column of a header as plain numbers, for C.
-use Rattle.std.specs.Prelude.{Bool, true, false, ℕ}
+use Rattle.std.specs.Prelude.{Bool, true, false, ℕ, Some, None, Ok, Err}
 use Rattle.header.specs.declared.Definition.{Definition}
-use Rattle.header.specs.declared.Step.{Step}
-use Rattle.header.specs.declared.Step.TheVariants as step
+use Rattle.header.specs.Steps.{Step}
 use Rattle.abi.specs.declared.PlainColumn.{PlainColumn}
 
 abbrev pub one_if : Bool → ℕ
@@ -60,6 +59,6 @@ no_column number place =
     }
 
 abbrev pub plain_column : Step → PlainColumn
-plain_column (step.Column d) = plain_definition d
-plain_column step.Done = no_column 0 0
-plain_column (step.Refused q) = no_column q.number q.place
+plain_column (Ok (Some d)) = plain_definition d
+plain_column (Ok None) = no_column 0 0
+plain_column (Err q) = no_column q.number q.place

@@ -1,13 +1,11 @@
 -- A tile loaded, as plain numbers. On a refusal the counts are 0; number, place and the table that it speaks of are not.
-use Rattle.std.specs.Prelude.{ℕ}
+use Rattle.std.specs.Prelude.{ℕ, Ok, Err}
 use Rattle.load.specs.declared.TableName.{TableName}
 use Rattle.load.specs.declared.TableName.TheVariants.{Edg, Fac, Rng, Cnd}
 use Rattle.load.specs.declared.Finding.{Finding}
-use Rattle.load.specs.declared.Loaded.{Loaded}
-use Rattle.load.specs.declared.Loaded.TheVariants.{Tile, Refused}
 use Rattle.load.specs.Sources.{Files}
 use Rattle.load.specs.Columns.{Columns, lengths}
-use Rattle.load.specs.Load.{load_of, columns_left}
+use Rattle.load.specs.Load.{Loaded, load_of, columns_left}
 use Rattle.abi.specs.declared.PlainLoaded.{PlainLoaded}
 
 -- the table that a refusal speaks of
@@ -22,8 +20,8 @@ refused_load f =
     record { number = f.refusal.number; place = f.refusal.place; table = table_number f.table; edges = 0; faces = 0; rings = 0; nodes = 0 }
 
 abbrev pub plain_loaded : Loaded → PlainLoaded
-plain_loaded (Tile c) = record { number = 0; place = 0; table = 0; edges = c.edges; faces = c.faces; rings = c.rings; nodes = c.nodes }
-plain_loaded (Refused f) = refused_load f
+plain_loaded (Ok c) = record { number = 0; place = 0; table = 0; edges = c.edges; faces = c.faces; rings = c.rings; nodes = c.nodes }
+plain_loaded (Err f) = refused_load f
 
 -- what the load leaves in the ten lent columns
 abbrev pub columns_loaded : Files → ℕ → Columns → Columns

@@ -21,23 +21,25 @@ ghost use Rattle.abi.specs.Plain.{order_for, ids_for, plain_verdict, plain_steps
 pub use columns::{vumbarete_column_step, vumbarete_first_place};
 pub use loads::vumbarete_load;
 use number::Order;
+use refusal::Refusal;
+use side::Edges;
 pub use tables::{
     vumbarete_find_column, vumbarete_header, vumbarete_judge_rows, vumbarete_open,
     vumbarete_rectangle, vumbarete_row, vumbarete_value,
 };
-use tile::{Verdict, Walked};
-use triplet::{Ids, Triplet, Written};
-use wave::{Height, Judgement};
+use tile::Tile;
+use triplet::{Ids, Triplet};
+use wave::Judgement;
 
 #[repr(C)]
-#[derive(Clone, Copy)]
+#[derive(Clone, Copy, Default)]
 pub struct PlainVerdict {
     pub number: u32,
     pub place: usize,
 }
 
 #[repr(C)]
-#[derive(Clone, Copy)]
+#[derive(Clone, Copy, Default)]
 pub struct PlainSteps {
     pub number: u32,
     pub place: usize,
@@ -45,7 +47,7 @@ pub struct PlainSteps {
 }
 
 #[repr(C)]
-#[derive(Clone, Copy)]
+#[derive(Clone, Copy, Default)]
 pub struct PlainHeight {
     pub number: u32,
     pub place: usize,
@@ -53,7 +55,7 @@ pub struct PlainHeight {
 }
 
 #[repr(C)]
-#[derive(Clone, Copy)]
+#[derive(Clone, Copy, Default)]
 pub struct PlainJudgement {
     pub number: u32,
     pub place: usize,
@@ -61,7 +63,7 @@ pub struct PlainJudgement {
 }
 
 #[repr(C)]
-#[derive(Clone, Copy)]
+#[derive(Clone, Copy, Default)]
 pub struct PlainTriplet {
     pub number: u32,
     pub place: usize,
@@ -72,7 +74,7 @@ pub struct PlainTriplet {
 }
 
 #[repr(C)]
-#[derive(Clone, Copy)]
+#[derive(Clone, Copy, Default)]
 pub struct PlainWritten {
     pub number: u32,
     pub place: usize,
@@ -80,7 +82,7 @@ pub struct PlainWritten {
 }
 
 #[repr(C)]
-#[derive(Clone, Copy)]
+#[derive(Clone, Copy, Default)]
 pub struct PlainLoaded {
     pub number: u32,
     pub place: usize,
@@ -92,7 +94,7 @@ pub struct PlainLoaded {
 }
 
 #[repr(C)]
-#[derive(Clone, Copy)]
+#[derive(Clone, Copy, Default)]
 pub struct PlainHeader {
     pub number: u32,
     pub place: usize,
@@ -104,7 +106,7 @@ pub struct PlainHeader {
 }
 
 #[repr(C)]
-#[derive(Clone, Copy)]
+#[derive(Clone, Copy, Default)]
 pub struct PlainColumn {
     pub number: u32,
     pub place: usize,
@@ -128,7 +130,7 @@ pub struct PlainColumn {
 }
 
 #[repr(C)]
-#[derive(Clone, Copy)]
+#[derive(Clone, Copy, Default)]
 pub struct PlainTable {
     pub number: u32,
     pub place: usize,
@@ -141,7 +143,7 @@ pub struct PlainTable {
 }
 
 #[repr(C)]
-#[derive(Clone, Copy)]
+#[derive(Clone, Copy, Default)]
 pub struct PlainRow {
     pub number: u32,
     pub place: usize,
@@ -150,7 +152,7 @@ pub struct PlainRow {
 }
 
 #[repr(C)]
-#[derive(Clone, Copy)]
+#[derive(Clone, Copy, Default)]
 pub struct PlainValue {
     pub number: u32,
     pub place: usize,
@@ -166,7 +168,7 @@ pub struct PlainValue {
 }
 
 #[repr(C)]
-#[derive(Clone, Copy)]
+#[derive(Clone, Copy, Default)]
 pub struct PlainRectangle {
     pub number: u32,
     pub place: usize,
@@ -194,114 +196,110 @@ fn order_for(most_first: bool) -> Order
 
 // ---- answers as plain numbers
 
-fn plain_height(h: Height) -> PlainHeight
-    ensures { result ≡ plain_height h }
-{
-    match h {
-        Height::Thousandths(v) => PlainHeight {
-            number: 0,
-            place: 0,
-            thousandths: v,
-        },
-        Height::Refused(q) => PlainHeight {
-            number: q.number,
-            place: q.place,
-            thousandths: 0,
-        },
+impl From<Result<u32, Refusal>> for PlainHeight {
+    ghost from_gives = { λ answer plain. plain ≡ plain_height answer };
+
+    fn from(answer: Result<u32, Refusal>) -> Self {
+        match answer {
+            Ok(thousandths) => PlainHeight {
+                thousandths,
+                ..PlainHeight::default()
+            },
+            Err(q) => PlainHeight {
+                number: q.number,
+                place: q.place,
+                ..PlainHeight::default()
+            },
+        }
     }
 }
 
-fn plain_judgement(j: Judgement) -> PlainJudgement
-    ensures { result ≡ plain_judgement j }
-{
-    match j {
-        Judgement::Passes => PlainJudgement {
-            number: 0,
-            place: 0,
-            passes: 1,
-        },
-        Judgement::TooHigh => PlainJudgement {
-            number: 0,
-            place: 0,
-            passes: 0,
-        },
-        Judgement::Refused(q) => PlainJudgement {
-            number: q.number,
-            place: q.place,
-            passes: 0,
-        },
+impl From<Result<Judgement, Refusal>> for PlainJudgement {
+    ghost from_gives = { λ answer plain. plain ≡ plain_judgement answer };
+
+    fn from(answer: Result<Judgement, Refusal>) -> Self {
+        match answer {
+            Ok(judgement) => PlainJudgement {
+                passes: u32::from(judgement == Judgement::Passes),
+                ..PlainJudgement::default()
+            },
+            Err(q) => PlainJudgement {
+                number: q.number,
+                place: q.place,
+                ..PlainJudgement::default()
+            },
+        }
     }
 }
 
-fn plain_triplet(t: Triplet) -> PlainTriplet
-    ensures { result ≡ plain_triplet t }
-{
-    match t {
-        Triplet::Is(ids, n) => PlainTriplet {
-            number: 0,
-            place: 0,
-            id: ids.id,
-            tile: ids.tile,
-            other: ids.other,
-            bytes: n,
-        },
-        Triplet::Refused(q) => PlainTriplet {
-            number: q.number,
-            place: q.place,
-            id: 0,
-            tile: 0,
-            other: 0,
-            bytes: 0,
-        },
+impl From<Result<Triplet, Refusal>> for PlainTriplet {
+    ghost from_gives = { λ answer plain. plain ≡ plain_triplet answer };
+
+    fn from(answer: Result<Triplet, Refusal>) -> Self {
+        match answer {
+            Ok(read) => PlainTriplet {
+                id: read.ids.id,
+                tile: read.ids.tile,
+                other: read.ids.other,
+                bytes: read.bytes,
+                ..PlainTriplet::default()
+            },
+            Err(q) => PlainTriplet {
+                number: q.number,
+                place: q.place,
+                ..PlainTriplet::default()
+            },
+        }
     }
 }
 
-fn plain_written(w: Written) -> PlainWritten
-    ensures { result ≡ plain_written w }
-{
-    match w {
-        Written::Bytes(n) => PlainWritten {
-            number: 0,
-            place: 0,
-            bytes: n,
-        },
-        Written::Refused(q) => PlainWritten {
-            number: q.number,
-            place: q.place,
-            bytes: 0,
-        },
+impl From<Result<usize, Refusal>> for PlainWritten {
+    ghost from_gives = { λ answer plain. plain ≡ plain_written answer };
+
+    fn from(answer: Result<usize, Refusal>) -> Self {
+        match answer {
+            Ok(bytes) => PlainWritten {
+                bytes,
+                ..PlainWritten::default()
+            },
+            Err(q) => PlainWritten {
+                number: q.number,
+                place: q.place,
+                ..PlainWritten::default()
+            },
+        }
     }
 }
 
-fn plain_verdict(v: Verdict) -> PlainVerdict
-    ensures { result ≡ plain_verdict v }
-{
-    match v {
-        Verdict::Accepted => PlainVerdict {
-            number: 0,
-            place: 0,
-        },
-        Verdict::Refused(q) => PlainVerdict {
-            number: q.number,
-            place: q.place,
-        },
+impl From<Result<(), Refusal>> for PlainVerdict {
+    ghost from_gives = { λ answer plain. plain ≡ plain_verdict answer };
+
+    fn from(answer: Result<(), Refusal>) -> Self {
+        match answer {
+            Ok(()) => PlainVerdict::default(),
+            Err(q) => PlainVerdict {
+                number: q.number,
+                place: q.place,
+            },
+        }
     }
 }
 
-fn plain_steps(w: Walked) -> PlainSteps
-    ensures { result ≡ plain_steps w }
-{
-    match w {
-        Walked::Steps(k) => PlainSteps {
-            number: 0,
-            place: 0,
-            steps: k,
-        },
-        Walked::Refused(q) => PlainSteps {
-            number: q.number,
-            place: q.place,
-            steps: 0,
-        },
+impl From<Result<usize, Refusal>> for PlainSteps {
+    ghost from_gives = { λ answer plain. plain ≡ plain_steps answer };
+
+    fn from(answer: Result<usize, Refusal>) -> Self {
+        match answer {
+            Ok(steps) => PlainSteps {
+                steps,
+                ..PlainSteps::default()
+            },
+            Err(q) => PlainSteps {
+                number: q.number,
+                place: q.place,
+                ..PlainSteps::default()
+            },
+        }
     }
 }
 
@@ -311,14 +309,14 @@ fn plain_steps(w: Walked) -> PlainSteps
 pub fn vumbarete_height(text: &[u8]) -> PlainHeight
     ensures { result ≡ plain_height (height_of text.now) }
 {
-    plain_height(wave::thousandths(text))
+    wave::thousandths(text).into()
 }
 
 // Whether a measured height is not above the limit: 1 where it passes.
 pub fn vumbarete_passes(measured: &[u8], limit: &[u8]) -> PlainJudgement
     ensures { result ≡ plain_judgement (judgement_of measured.now limit.now) }
 {
-    plain_judgement(wave::passes(measured, limit))
+    wave::passes(measured, limit).into()
 }
 
 // ---- triplet ids
@@ -327,7 +325,7 @@ pub fn vumbarete_passes(measured: &[u8], limit: &[u8]) -> PlainJudgement
 pub fn vumbarete_triplet(bytes: &[u8], most_first: bool) -> PlainTriplet
     ensures { result ≡ plain_triplet (triplet_of (order_for most_first) bytes.now) }
 {
-    plain_triplet(triplet::read(bytes, order_for(most_first)))
+    triplet::read(bytes, order_for(most_first)).into()
 }
 
 // Writes a triplet id into the row at a place, and changes no other byte.
@@ -342,12 +340,7 @@ pub fn vumbarete_write_triplet(
     ensures value { result ≡ plain_written (written_of (length row.old) at (ids_for id tile other)) }
     ensures row_after { row.new ≡ row_after (written_of (length row.old) at (ids_for id tile other)) (order_for most_first) row.old at (ids_for id tile other) }
 {
-    let ids = Ids {
-        id: id,
-        tile: tile,
-        other: other,
-    };
-    plain_written(triplet::write(row, at, ids, order_for(most_first)))
+    triplet::write(row, at, Ids { id, tile, other }, order_for(most_first)).into()
 }
 
 // ---- the tile
@@ -375,10 +368,21 @@ pub fn vumbarete_check(
         ring_ptr.now fac_id.now start_edge.now first_edge.now)
         marks.old }
 {
-    plain_verdict(tile::check(
-        start_node, end_node, right_face, left_face, right_edge, left_edge, ring_ptr, fac_id,
-        start_edge, first_edge, marks,
-    ))
+    let tile = Tile {
+        edges: Edges {
+            start_node,
+            end_node,
+            right_face,
+            left_face,
+            right_edge,
+            left_edge,
+        },
+        ring_ptr,
+        fac_id,
+        start_edge,
+        first_edge,
+    };
+    tile::check(&tile, marks).into()
 }
 
 // Walks from a ring row and writes the sides of its cycle, start side first.
@@ -408,8 +412,19 @@ pub fn vumbarete_walk(
         fac_id.now start_edge.now first_edge.now) row
         (length out.old)) out.old }
 {
-    plain_steps(tile::walk(
-        start_node, end_node, right_face, left_face, right_edge, left_edge, ring_ptr, fac_id,
-        start_edge, first_edge, row, out,
-    ))
+    let tile = Tile {
+        edges: Edges {
+            start_node,
+            end_node,
+            right_face,
+            left_face,
+            right_edge,
+            left_edge,
+        },
+        ring_ptr,
+        fac_id,
+        start_edge,
+        first_edge,
+    };
+    tile::walk(&tile, row, out).into()
 }

@@ -3,10 +3,10 @@ ghost use Rattle.std.specs.Prelude.{◌≡◌};
 ghost use Rattle.load.specs.Sources.{files};
 ghost use Rattle.load.specs.Columns.{columns, lengths};
 ghost use Rattle.load.specs.Load.{load_of};
-ghost use Rattle.abi.specs.PlainLoads.{table_number, refused_load, plain_loaded, columns_loaded};
+ghost use Rattle.abi.specs.PlainLoads.{table_number, plain_loaded, columns_loaded};
 
 use crate::PlainLoaded;
-use load::{Finding, Loaded, TableName};
+use load::{ColumnsMut, Counts, Finding, Sources, TableName};
 
 // The tables by number: 1 edg, 2 fac, 3 rng, 4 cnd.
 fn table_number(name: TableName) -> u32
@@ -20,36 +20,25 @@ fn table_number(name: TableName) -> u32
     }
 }
 
-fn refused_load(f: Finding) -> PlainLoaded
-    ensures { result ≡ refused_load f }
-{
-    let name = f.table;
-    let q = f.refusal;
-    PlainLoaded {
-        number: q.number,
-        place: q.place,
-        table: table_number(name),
-        edges: 0,
-        faces: 0,
-        rings: 0,
-        nodes: 0,
-    }
-}
+impl From<Result<Counts, Finding>> for PlainLoaded {
+    ghost from_gives = { λ loaded plain. plain ≡ plain_loaded loaded };
 
-fn plain_loaded(l: Loaded) -> PlainLoaded
-    ensures { result ≡ plain_loaded l }
-{
-    match l {
-        Loaded::Tile(c) => PlainLoaded {
-            number: 0,
-            place: 0,
-            table: 0,
-            edges: c.edges,
-            faces: c.faces,
-            rings: c.rings,
-            nodes: c.nodes,
-        },
-        Loaded::Refused(f) => refused_load(f),
+    fn from(loaded: Result<Counts, Finding>) -> Self {
+        match loaded {
+            Ok(c) => PlainLoaded {
+                edges: c.edges,
+                faces: c.faces,
+                rings: c.rings,
+                nodes: c.nodes,
+                ..PlainLoaded::default()
+            },
+            Err(found) => PlainLoaded {
+                number: found.refusal.number,
+                place: found.refusal.place,
+                table: table_number(found.table),
+                ..PlainLoaded::default()
+            },
+        }
     }
 }
 
@@ -89,8 +78,27 @@ pub fn vumbarete_load(
         right_edge.old left_edge.old ring_ptr.old fac_id.old
         start_edge.old first_edge.old) }
 {
-    plain_loaded(load::load(
-        edg, edx, fac, fax, rng, rnx, cnd, cnx, most, start_node, end_node, right_face, left_face,
-        right_edge, left_edge, ring_ptr, fac_id, start_edge, first_edge,
-    ))
+    let sources = Sources {
+        edg,
+        edx,
+        fac,
+        fax,
+        rng,
+        rnx,
+        cnd,
+        cnx,
+    };
+    let mut columns = ColumnsMut {
+        start_node,
+        end_node,
+        right_face,
+        left_face,
+        right_edge,
+        left_edge,
+        ring_ptr,
+        fac_id,
+        start_edge,
+        first_edge,
+    };
+    load::load(&sources, most, &mut columns).into()
 }

@@ -3,6 +3,7 @@
 -- nothing else.
 use mathlib.Core.Path.{◌≡◌, refl, sym, ap, subst, ◌∙◌}
 use mathlib.Core.Logic.{◌↔◌, ◌⊎◌, inl, inr, ⊎_elim}
+use Rattle.std.specs.Prelude.{Ok, Err}
 use mathlib.Core.Bool.{Bool, true, false, not, ◌&&◌, true≢false}
 use Prim.Native.Nat.{ℕ, ◌<◌}
 use native.Mathlib.Omega.{arith}
@@ -14,17 +15,17 @@ use Rattle.laws.proofs.LowestLaws.{lowest_cases, lowest_is, lowest_nothing}
 use Rattle.laws.proofs.ForemostLaws.{reversed_ordered, foremost_earliest, one_earliest}
 use Rattle.refusal.specs.declared.Refusal.{Refusal}
 use Rattle.refusal.specs.Order.{refusal}
-use Rattle.bounds.specs.Bounds.{Rectangle, Bounds, within, refused, Coordinates, count, xOf, yOf, unfit, rectangle_of, not_finite_or_none, bounds_of}
+use Rattle.bounds.specs.Bounds.{Rectangle, Bounds, Coordinates, count, xOf, yOf, unfit, rectangle_of, not_finite_or_none, bounds_of}
 use Rattle.bounds.specs.Words.{Accepted, RectangleOf}
 use Rattle.bounds.proofs.FloatOrder.{ordered}
 
 -- ---- the three ways to an answer
 module _ (c : Coordinates) where
-  at_none : count c ≡ 0 → bounds_of c ≡ refused (refusal not_finite_or_none 0)
+  at_none : count c ≡ 0 → bounds_of c ≡ Err (refusal not_finite_or_none 0)
   unfolding bounds_of
   at_none e = rw (eq-eqb (count c) 0 e)
 
-  at_unfit : (i : ℕ) → At (unfit c) (count c) i → bounds_of c ≡ refused (refusal not_finite_or_none i)
+  at_unfit : (i : ℕ) → At (unfit c) (count c) i → bounds_of c ≡ Err (refusal not_finite_or_none i)
   unfolding bounds_of
   at_unfit i h =
       rw (
@@ -33,7 +34,7 @@ module _ (c : Coordinates) where
         ne_eqb i 0 (λ z. omega (arith, h.pos)),
       )
 
-  at_end : 0 < count c → None (unfit c) (count c) → bounds_of c ≡ within (rectangle_of c (count c))
+  at_end : 0 < count c → None (unfit c) (count c) → bounds_of c ≡ Ok (rectangle_of c (count c))
   unfolding bounds_of
   at_end p h = rw (ne_eqb (count c) 0 (λ z. omega arith), lowest_nothing (unfit c) (count c) h)
 
@@ -58,8 +59,8 @@ module _ (c : Coordinates) where
 
   -- what an answer means
   abbrev Means : Bounds → Type 0
-  Means (within r) = Accepted c × (r ≡ rectangle_of c (count c))
-  Means (refused q) = ((count c ≡ 0) × (q ≡ refusal not_finite_or_none 0)) ⊎ ((i : ℕ) × At (unfit c) (count c) i × (q ≡ refusal not_finite_or_none i))
+  Means (Ok r) = Accepted c × (r ≡ rectangle_of c (count c))
+  Means (Err q) = ((count c ≡ 0) × (q ≡ refusal not_finite_or_none 0)) ⊎ ((i : ℕ) × At (unfit c) (count c) i × (q ≡ refusal not_finite_or_none i))
 
   meant : Means (bounds_of c)
   meant = by (eq-zero-or-pos (count c)) (lowest_cases (unfit c) (count c))
@@ -92,18 +93,18 @@ module _ (c : Coordinates) where
   -- ---- the theorems
 
   -- a rectangle is the answer exactly when the edge is accepted
-  pub accepted_exactly : ((r : Rectangle) × (bounds_of c ≡ within r)) ↔ Accepted c
+  pub accepted_exactly : ((r : Rectangle) × (bounds_of c ≡ Ok r)) ↔ Accepted c
   accepted_exactly = (λ h. (subst Means h.1 meant).0, λ h. (rectangle_of c (count c), at_end h.some (all_fit h)))
 
   -- r is the answer exactly when the edge is accepted and r is its rectangle
-  pub rectangle_exactly : (r : Rectangle) → (bounds_of c ≡ within r) ↔ (Accepted c × RectangleOf c r)
+  pub rectangle_exactly : (r : Rectangle) → (bounds_of c ≡ Ok r) ↔ (Accepted c × RectangleOf c r)
   rectangle_exactly r = (
     λ e. let m = subst Means e meant in (m.0, subst (RectangleOf c) (sym m.1) (found m.0)),
-    λ h. at_end h.0.some (all_fit h.0) ∙ ap within (no_second (rectangle_of c (count c)) r (found h.0) h.1),
+    λ h. at_end h.0.some (all_fit h.0) ∙ ap Ok (no_second (rectangle_of c (count c)) r (found h.0) h.1),
   )
 
   -- 12 at i exactly when i is the lowest coordinate with x or y not finite
-  pub refused-exactly : (i : ℕ) → 0 < i → (bounds_of c ≡ refused (refusal not_finite_or_none i)) ↔ At (unfit c) (count c) i
+  pub refused-exactly : (i : ℕ) → 0 < i → (bounds_of c ≡ Err (refusal not_finite_or_none i)) ↔ At (unfit c) (count c) i
   refused-exactly i p = (
     λ e.
         ⊎_elim
@@ -114,7 +115,7 @@ module _ (c : Coordinates) where
   )
 
   -- 12 at 0 exactly when there are no coordinates
-  pub none_exactly : (bounds_of c ≡ refused (refusal not_finite_or_none 0)) ↔ (count c ≡ 0)
+  pub none_exactly : (bounds_of c ≡ Err (refusal not_finite_or_none 0)) ↔ (count c ≡ 0)
   none_exactly = (
     λ e.
         ⊎_elim
@@ -125,5 +126,5 @@ module _ (c : Coordinates) where
   )
 
   -- no other number is given
-  pub refused-number : (q : Refusal) → bounds_of c ≡ refused q → q.number ≡ not_finite_or_none
+  pub refused-number : (q : Refusal) → bounds_of c ≡ Err q → q.number ≡ not_finite_or_none
   refused-number q e = ⊎_elim (λ h. ap (λ (r : Refusal). r.number) h.1) (λ h. ap (λ (r : Refusal). r.number) h.2) (subst Means e meant)

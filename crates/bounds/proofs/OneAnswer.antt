@@ -1,6 +1,7 @@
 -- No second answer fits: two answers of the code that mean the same bounds are the same; and the bits of a bound are the
 -- coordinate's own, since a finite float has one pattern.
-use mathlib.Core.Path.{◌≡◌, refl, sym}
+use mathlib.Core.Path.{◌≡◌, refl, sym, ap}
+use Rattle.std.specs.Prelude.{Result, Ok, Err}
 use mathlib.Core.Bool.{true, not, false≢true}
 use mathlib.Core.List.{List}
 use Prim.Native.Nat.{ℕ, ◌+◌, ◌*◌, ◌^◌, ◌≤◌}
@@ -14,34 +15,34 @@ use Rattle.refusal.specs.declared.Refusal.{Refusal}
 use Rattle.number.specs.declared.Order.{Order}
 use Rattle.number.specs.Bytes.{number, AreBytes}
 use Rattle.number.proofs.NumberLaws.{number_small}
-use Rattle.bounds.specs.declared.Bounds32.{Bounds32}
-use Rattle.bounds.specs.declared.Bounds32.TheVariants.{Within as Within32, Refused as Refused32}
-use Rattle.bounds.specs.declared.Bounds64.{Bounds64}
-use Rattle.bounds.specs.declared.Bounds64.TheVariants.{Within as Within64, Refused as Refused64}
-use Rattle.bounds.specs.Bounds.{Rectangle, within, refused, bounds32, bounds64, part_bytes, part_at}
+use Rattle.bounds.specs.declared.Rectangle.{Rectangle as Of}
+use Rattle.bounds.specs.Bounds.{Rectangle, Bounds, bounds_by, part_bytes, part_at}
 
 -- a rectangle is no refusal, and each has one content
-within_one : {r q : Rectangle} → within r ≡ within q → r ≡ q
+within_one : {r q : Rectangle} → ◌≡◌ {A = Bounds} (Ok r) (Ok q) → r ≡ q
 within_one e = cc
 
-unlike : {r : Rectangle} {q : Refusal} → within r ≡ refused q → ⊥
+unlike : {r : Rectangle} {q : Refusal} → ◌≡◌ {A = Bounds} (Ok r) (Err q) → ⊥
 unlike e = let z : ◌≡◌ {A = ℕ} 0 1 = cc in omega arith
 
-pub one_answer32 : (a b : Bounds32) → bounds32 a ≡ bounds32 b → a ≡ b
-one_answer32 (Within32 r) (Within32 q) e =
+-- at every width whose floats have each its own value, as those of f32 and f64 have
+pub one_answer : {F : Type 0} (v : F → Float) → ((x y : F) → v x ≡ v y → x ≡ y) → (a b : Result (Of F) Refusal)
+    → bounds_by v a ≡ bounds_by v b → a ≡ b
+one_answer v only (Ok r) (Ok q) e =
     let p = within_one e in
-    λ i. Within32 (record { least_x = (p i).least_x; least_y = (p i).least_y; greatest_x = (p i).greatest_x; greatest_y = (p i).greatest_y })
-one_answer32 (Within32 r) (Refused32 q) e = absurd (unlike e)
-one_answer32 (Refused32 r) (Within32 q) e = absurd (unlike (sym e))
-one_answer32 (Refused32 r) (Refused32 q) e = cc
+    let x = only r.least_x q.least_x (ap (λ (t : Rectangle). t.least_x) p) in
+    let y = only r.least_y q.least_y (ap (λ (t : Rectangle). t.least_y) p) in
+    let z = only r.greatest_x q.greatest_x (ap (λ (t : Rectangle). t.greatest_x) p) in
+    let w = only r.greatest_y q.greatest_y (ap (λ (t : Rectangle). t.greatest_y) p) in
+    λ i. Ok (record { least_x = x i; least_y = y i; greatest_x = z i; greatest_y = w i })
+one_answer v only (Ok r) (Err q) e = absurd (unlike e)
+one_answer v only (Err r) (Ok q) e = absurd (unlike (sym e))
+one_answer v only (Err r) (Err q) e = cc
 
-pub one_answer64 : (a b : Bounds64) → bounds64 a ≡ bounds64 b → a ≡ b
-one_answer64 (Within64 r) (Within64 q) e =
-    let p = within_one e in
-    λ i. Within64 (record { least_x = (p i).least_x; least_y = (p i).least_y; greatest_x = (p i).greatest_x; greatest_y = (p i).greatest_y })
-one_answer64 (Within64 r) (Refused64 q) e = absurd (unlike e)
-one_answer64 (Refused64 r) (Within64 q) e = absurd (unlike (sym e))
-one_answer64 (Refused64 r) (Refused64 q) e = cc
+-- at f32 and f64 the map is the identity
+pub bounds_itself : (r : Bounds) → bounds_by (λ x. x) r ≡ r
+bounds_itself (Ok r) = refl
+bounds_itself (Err q) = refl
 
 -- ---- the bits
 all_patterns : (f : Format) → 256 ^ part_bytes f ≡ 2 * top f

@@ -1,10 +1,10 @@
 -- The rectangle of an edge's coordinates: one definition over the width of a float. Both widths have one type of values,
 -- so every law of this crate is stated once, for f32 and f64 together.
-use Rattle.std.specs.Prelude.{◌≡◌, Bool, not, ◌&&◌, cond, List, ℕ, pred, ◌+◌, ◌*◌, ◌/◌, eqb, Float, length}
+use Rattle.std.specs.Prelude.{◌≡◌, Bool, not, ◌&&◌, cond, Option, Some, None, Result, Ok, Err, List, ℕ, pred, ◌+◌, ◌*◌, ◌/◌, eqb, Float, length}
 use Rattle.std.specs.Float.{Format, binary32, binary64}
 use Rattle.std.specs.Float.Ieee.{lt, of_bits}
 use Rattle.std.specs.Float.Ieee.Scale.{finite}
-use Rattle.laws.specs.Lowest.{lowest, None}
+use Rattle.laws.specs.Lowest.{lowest, None as NoneOf}
 use Rattle.laws.specs.Foremost.{foremost_of_two, foremost, reversed}
 use Rattle.refusal.specs.declared.Refusal.{Refusal}
 use Rattle.refusal.specs.Order.{refusal}
@@ -12,57 +12,40 @@ use Rattle.number.specs.declared.Order.{Order}
 use Rattle.number.specs.Bytes.{number}
 use Rattle.bounds.specs.declared.Parts.{Parts}
 use Rattle.bounds.specs.declared.Parts.TheVariants.{Two, Three}
-use Rattle.bounds.specs.declared.Rectangle32.{Rectangle32}
-use Rattle.bounds.specs.declared.Rectangle64.{Rectangle64}
-use Rattle.bounds.specs.declared.Point32.{Point32}
-use Rattle.bounds.specs.declared.Point32.TheVariants.{At as At32, NotFinite as NotFinite32}
-use Rattle.bounds.specs.declared.Point64.{Point64}
-use Rattle.bounds.specs.declared.Point64.TheVariants.{At as At64, NotFinite as NotFinite64}
-use Rattle.bounds.specs.declared.Bounds32.{Bounds32}
-use Rattle.bounds.specs.declared.Bounds32.TheVariants.{Within as Within32, Refused as Refused32}
-use Rattle.bounds.specs.declared.Bounds64.{Bounds64}
-use Rattle.bounds.specs.declared.Bounds64.TheVariants.{Within as Within64, Refused as Refused64}
+use Rattle.bounds.specs.declared.Rectangle.{Rectangle as Of}
 
 -- ---- the answers, of either width
 
 -- "the rectangle travels as one record of four floats"
-pub record Rectangle : Type 0 where
-  pub least_x : Float
-  pub least_y : Float
-  pub greatest_x : Float
-  pub greatest_y : Float
+abbrev pub Rectangle : Type 0
+Rectangle = Of Float
 
-pub data Bounds : Type 0 where
-  within : Rectangle → Bounds
-  refused : Refusal → Bounds
+abbrev pub Bounds : Type 0
+Bounds = Result Rectangle Refusal
 
 -- a coordinate whose x and y are finite, or that it is none
-pub data Point : Type 0 where
-  at : Float → Float → Point
-  not_finite : Point
+abbrev pub Point : Type 0
+Point = Option (Float × Float)
 
--- the types of the code, "in f32 ... in f64", as these
-abbrev pub rectangle32 : Rectangle32 → Rectangle
-rectangle32 r = record { least_x = r.least_x; least_y = r.least_y; greatest_x = r.greatest_x; greatest_y = r.greatest_y }
+abbrev pub at : Float → Float → Point
+at x y = Some (x, y)
 
-abbrev pub rectangle64 : Rectangle64 → Rectangle
-rectangle64 r = record { least_x = r.least_x; least_y = r.least_y; greatest_x = r.greatest_x; greatest_y = r.greatest_y }
+-- the answers of the code, "in f32 ... in f64", as these: v gives the value of a float of the width, and is the identity of both
+module _ {F : Type 0} (v : F → Float) where
+  abbrev pub rectangle_by : Of F → Rectangle
+  rectangle_by r = record { least_x = v r.least_x; least_y = v r.least_y; greatest_x = v r.greatest_x; greatest_y = v r.greatest_y }
 
-abbrev pub point32 : Point32 → Point
-point32 (At32 x y) = at x y
-point32 NotFinite32 = not_finite
+  abbrev pub bounds_by : Result (Of F) Refusal → Bounds
+  bounds_by (Ok r) = Ok (rectangle_by r)
+  bounds_by (Err q) = Err q
 
-abbrev pub point64 : Point64 → Point
-point64 (At64 x y) = at x y
-point64 NotFinite64 = not_finite
+  abbrev pub part_by : Option F → Option Float
+  part_by (Some x) = Some (v x)
+  part_by None = None
 
-abbrev pub bounds32 : Bounds32 → Bounds
-bounds32 (Within32 r) = within (rectangle32 r)
-bounds32 (Refused32 r) = refused r
-
-abbrev pub bounds64 : Bounds64 → Bounds
-bounds64 (Within64 r) = within (rectangle64 r)
-bounds64 (Refused64 r) = refused r
+  abbrev pub point_by : Option (F × F) → Point
+  point_by (Some p) = at (v p.0) (v p.1)
+  point_by None = None
 
 -- ---- coordinates in bytes
 
@@ -133,14 +116,21 @@ not_finite_or_none = 12
 -- THE BOUNDS of an edge: 12 at 0 for no coordinates, 12 at the lowest coordinate ("from 1") with x or y not finite, else the rectangle
 unfoldable pub bounds_of : Coordinates → Bounds
 bounds_of c =
-    cond (eqb (count c) 0) (refused (refusal not_finite_or_none 0))
-    (cond (eqb (lowest (unfit c) (count c)) 0) (within (rectangle_of c (count c))) (refused (refusal not_finite_or_none (lowest (unfit c) (count c)))))
+    cond (eqb (count c) 0) (Err (refusal not_finite_or_none 0))
+    (cond (eqb (lowest (unfit c) (count c)) 0) (Ok (rectangle_of c (count c))) (Err (refusal not_finite_or_none (lowest (unfit c) (count c)))))
 
 -- ---- one coordinate, as the code takes it
 
--- x and y where both are finite
+-- a part where it is finite, and x and y where both are
+abbrev pub fit_part : Float → Option Float
+fit_part x = cond (finite x) (Some x) None
+
 abbrev pub point : Float → Float → Point
-point x y = cond (finite x) (cond (finite y) (at x y) not_finite) not_finite
+point x y = cond (finite x) (cond (finite y) (at x y) None) None
+
+-- the part at a place
+unfoldable pub fit_at : Format → Order → List ℕ → ℕ → Option Float
+fit_at f o s place = fit_part (part_at f o s place)
 
 -- the coordinate at a place
 unfoldable pub point_at : Format → Order → List ℕ → ℕ → Point
@@ -161,5 +151,5 @@ extended r x y =
 
 -- the coordinates 1 to i are read: all are fit, and r is their rectangle
 pub record Reached (c : Coordinates) (i : ℕ) (r : Rectangle) : Type 0 where
-  pub fit : None (unfit c) i
+  pub fit : NoneOf (unfit c) i
   pub bounds : r ≡ rectangle_of c i

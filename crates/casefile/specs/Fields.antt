@@ -23,3 +23,7 @@ place_of s (suc k) = end_of s (place_of s k)
 -- a number of bytes at the front of a buffer: no more than it has
 abbrev pub IsPrefixLen : ℕ → List ℕ → Type 0
 IsPrefixLen n s = (n ≤ length s) × (n ≡ length (take n s))
+
+-- the text begins with this field, and this follows it
+abbrev pub IsFieldThen : List ℕ → List ℕ → List ℕ → Type 0
+IsFieldThen s field rest = (field ≡ field_at s 0) × (rest ≡ drop (end_of s 0) s)

@@ -3,8 +3,9 @@
 // programs of cases say alike. What a program writes is no value that a contract can speak of: it is held to the file `stdout` beside it.
 #![tactic(auto)]
 
-ghost use Rattle.std.specs.Prelude.{◌≡◌, ◌+◌, ◌≤◌, min, length};
-ghost use Rattle.casefile.specs.Fields.{IsPrefixLen, start_of, end_of, field_at, place_of};
+ghost use Rattle.std.specs.Prelude.{◌≡◌, ◌+◌, ◌≤◌, min, length, MatchOption};
+ghost use Rattle.std.specs.Iterator.{at_most};
+ghost use Rattle.casefile.specs.Fields.{IsPrefixLen, start_of, end_of, field_at, place_of, IsFieldThen};
 
 use number::Order;
 use refusal::Refusal;
@@ -50,14 +51,7 @@ pub fn load(files: &impl Files, path: &[u8], buf: &mut [u8]) -> usize
 fn forward(file: &[u8], at: usize, bytes: usize) -> usize
     ensures { result ≡ min (at + bytes) (length file.now) }
 {
-    let end = file.len();
-    if end < at {
-        return end;
-    }
-    if end - at < bytes {
-        return end;
-    }
-    at + bytes
+    at.saturating_add(bytes).min(file.len())
 }
 
 // Where the bytes of the field at a place start.
@@ -72,7 +66,7 @@ pub fn after(file: &[u8], at: usize) -> usize
     ensures value { result ≡ end_of file.now at }
     ensures lower_bound { min (at + 1) (length file.now) ≤ result }
 {
-    let bytes = number::read2(file, at, Order::Least) as usize;
+    let bytes = number::read::<u16>(file, at, Order::Least) as usize;
     forward(file, start(file, at), bytes)
 }
 
@@ -90,12 +84,42 @@ pub fn part(case: &[u8], k: usize) -> &[u8]
     ensures { result.now ≡ field_at case.now (place_of case.now k) }
 {
     let mut at = 0;
-    let mut i = 0;
-    while i < k {
+    for _ in 0..k {
         at = after(case, at);
-        i += 1;
     }
     field(case, at)
+}
+
+// The fields of a file, one after the other.
+#[derive(Drop)]
+pub struct Fields<'a> {
+    rest: &'a [u8],
+}
+
+impl<'a> Fields<'a> {
+    pub fn new(file: &'a [u8]) -> Fields<'a>
+        ensures { result.rest.now ≡ file.now }
+    {
+        Fields { rest: file }
+    }
+}
+
+impl<'a> Iterator for Fields<'a> {
+    type Item = &'a [u8];
+
+    ghost next_gives = { λ s r t. MatchOption r (length s.rest.now ≡ 0) (λ field. IsFieldThen s.rest.now field.now t.rest.now) };
+
+    ghost remaining = { λ s. at_most (length s.rest.now) };
+
+    fn next(&mut self) -> Option<&'a [u8]> {
+        let rest = self.rest;
+        if rest.is_empty() {
+            return None;
+        }
+        let end = after(rest, 0);
+        self.rest = &rest[end..];
+        Some(field(rest, 0))
+    }
 }
 
 // ---- sayings
@@ -109,31 +133,21 @@ pub fn say_number(out: &mut impl Write, n: u64) -> io::Result<()> {
 }
 
 pub fn say_refusal(out: &mut impl Write, bad: Refusal) -> io::Result<()> {
-    say(out, b"refused ")?;
-    say_number(out, bad.number as u64)?;
-    say(out, b" at ")?;
-    say_number(out, bad.place as u64)
+    write!(out, "refused {} at {}", bad.number, bad.place)
 }
 
-// A byte as two hexadecimal digits.
-fn say_byte(out: &mut impl Write, b: u8) -> io::Result<()> {
-    write!(out, "{b:02x}")
-}
-
+// Each byte as two hexadecimal digits.
 pub fn say_bytes(out: &mut impl Write, bytes: &[u8]) -> io::Result<()> {
-    for &b in bytes {
-        say_byte(out, b)?;
+    for byte in bytes {
+        write!(out, "{byte:02x}")?;
     }
     Ok(())
 }
 
 // The bytes of a file from start to end; nothing where they are not there.
 pub fn say_part(out: &mut impl Write, file: &[u8], start: usize, end: usize) -> io::Result<()> {
-    if file.len() < end {
-        return Ok(());
+    match file.get(start..end) {
+        Some(part) => say(out, part),
+        None => Ok(()),
     }
-    if end < start {
-        return Ok(());
-    }
-    say(out, &file[start..end])
 }

@@ -4,100 +4,81 @@
 -- `one_of` puts a number into a list, `also` carries it into a list that has all of the first, and `refl` answers both tests. Two ways lead
 -- there. Where a theorem says exactly when an operation refuses, the number is read off the test that failed, one line for each:
 -- `written-named`, `header_named`, `opening-named`, `load-named`, `check_named`. Where the definition chooses between answers, the property
--- goes through its branches: `either`, `if_refused` and `either_first` for the judgement of a row (`row_listed`), `either_value` with the
--- cases of the field type for a value (`value_numbers`), `either_walk` for a walk (`walk_numbers`), in which a move that cannot be made has
--- 22 to 25, by induction on the moves left (`stuck-named`). A directory's load has 15 by size or the number of its load (`load-named_by`).
+-- goes through its branches: `either`, `if_refused` and `either_first` for the judgement of a row (`row_listed`); `either_answer`,
+-- `with_number` and `unless_listed` for whatever answers with a Result (`Refuses`): a step, a row, a value (`value_numbers`, by the cases of
+-- the field type) and a walk (`walk_numbers`), in which a move that cannot be made has 22 to 25, by induction on the moves left
+-- (`stuck-named`). A directory's load has 15 by size or the number of its load (`load-named_by`).
 use mathlib.Core.Path.{◌≡◌, refl, sym, ap, subst, ◌∙◌}
 use mathlib.Core.Logic.{inl, inr, ⊎_elim}
 use mathlib.Core.Bool.{Bool, true, false, cond, not}
 use mathlib.Core.List.{List, [], ◌∷◌}
 use Prim.Native.Nat.{ℕ, zero, suc, pred, ◌-◌}
+use Rattle.std.specs.Prelude.{Some, None, Result, Ok, Err}
 use borrow.Author.Tests.{eqb-false}
 use lib.Dec.{eqb, ltb}
 use lib.ListN.{take, drop}
 use Rattle.laws.specs.Lowest.{lowest}
 use Rattle.laws.proofs.LowestLaws.{bool_cases}
 use Rattle.laws.proofs.TestLaws.{clash}
+use Rattle.refusal.specs.declared.Kind.{Kind}
 use Rattle.refusal.specs.declared.Refusal.{Refusal}
-use Rattle.refusal.specs.Order.{refusal, fine, refused_if, first, refuses, at_row, lowest_of}
+use Rattle.refusal.specs.Kinds.{number_of}
+use Rattle.refusal.specs.Order.{refusal, fine, unless, refused_if, first, refuses, at_row, lowest_of}
 use Rattle.number.specs.declared.Order.{Order}
-use Rattle.number.specs.Bytes.{number}
-use Rattle.wave.specs.declared.Height.TheVariants as height
-use Rattle.wave.specs.declared.Judgement.TheVariants as judgement
 use Rattle.wave.specs.Height.{height_of}
 use Rattle.wave.specs.Judgement.{judgement_of}
 use Rattle.wave.proofs.Exact as wave
 use Rattle.wave.proofs.Verdict as judged
 use Rattle.triplet.specs.declared.Ids.{Ids}
-use Rattle.triplet.specs.declared.Triplet as read
-use Rattle.triplet.specs.declared.Written.TheVariants as written
-use Rattle.triplet.specs.Triplet.{triplet_of}
+use Rattle.triplet.specs.Triplet.{Reading, triplet_of}
 use Rattle.triplet.specs.Written.{written_of}
 use Rattle.triplet.specs.Words.{NotWritten, large_part, place_beyond, no_room}
 use Rattle.triplet.proofs.ReadExactly as triplet
 use Rattle.triplet.proofs.WrittenExactly.{not_written_exactly}
 use Rattle.field.specs.declared.FieldType.{FieldType}
 use Rattle.field.specs.declared.FieldType.TheVariants as type
-use Rattle.field.specs.Nulls.{short_half, integer_half, signed, short_is_null, integer_is_null, float_is_null, double_is_null}
-use Rattle.header.specs.declared.Answer.TheVariants as answer
 use Rattle.header.specs.declared.ColumnLayout.{ColumnLayout}
 use Rattle.header.specs.declared.Layout.{Layout}
 use Rattle.header.specs.Layouts.{header_of}
-use Rattle.header.specs.declared.Step.TheVariants as step
-use Rattle.header.specs.Places.{place_after}
+use Rattle.header.specs.Places.{definition, place_after}
 use Rattle.header.specs.Judge.{head_of, column_count, header_refusal}
 use Rattle.header.specs.Steps.{starts_at, step_from, step_of}
 use Rattle.header.specs.Refusals as header
 use Rattle.header.proofs.RefusedExactly as header_proofs
 use Rattle.opening.specs.declared.Table.{Table}
-use Rattle.table.specs.declared.Reach.{Reach}
-use Rattle.table.specs.declared.Reach.TheVariants as reached
-use Rattle.table.specs.declared.Row.{Row}
-use Rattle.table.specs.declared.Row.TheVariants as row
-use Rattle.table.specs.declared.Value.{Value}
-use Rattle.table.specs.declared.Value.TheVariants as value
+use Rattle.table.specs.declared.Unreached.TheVariants.{Short, BadTriplet}
 use Rattle.opening.specs.Opening.{needs_index, opened_of}
-use Rattle.table.specs.Rows.{column_at, columns_of, no_such_row, no_such_column, outside, bound_of, reach, id_at, id_refusal, used_up}
-use Rattle.table.specs.Rows.{column_place, fields_refusal, place_refusal, row_refusal, row_judged, rows_of, rows_refusal, row_of}
-use Rattle.table.specs.Values.{triplet_of_read, by_type, shown, in_row, value_of}
+use Rattle.table.specs.Rows.{column_at, columns_of, no_such_row, no_such_column, outside, bound_of, Reach, reach, id_at, id_refusal, used_up}
+use Rattle.table.specs.Rows.{column_place, fields_refusal, place_refusal, row_refusal, row_judged, rows_of, rows_refusal, Row, row_of}
+use Rattle.table.specs.Values.{ValueRead, triplet_of_read, by_type, shown, in_row, field_in, value_of}
 use Rattle.opening.specs.Words as opening_words
 use Rattle.table.specs.Words as table
 use Rattle.opening.proofs.OpenedExactly as opening
-use Rattle.bounds.specs.Bounds.{Coordinates, bounds_of, refused}
+use Rattle.bounds.specs.Bounds.{Coordinates, bounds_of}
 use Rattle.bounds.proofs.BoundsExactly as bounds
 use Rattle.rectangle.specs.Rectangles.{rectangle_of, refused_with}
 use Rattle.rectangle.proofs.RectangleExactly as rectangle
-use Rattle.side.specs.declared.Successor.{Successor}
-use Rattle.side.specs.declared.Successor.TheVariants.{Side, Wrong}
 use Rattle.side.specs.Edges.{Edges}
 use Rattle.side.specs.Edges as side
-use Rattle.side.specs.Successor.{successor, Fault, no_touch, other_face, both_sides}
+use Rattle.side.specs.Successor.{Successor, successor, Fault, no_touch, other_face, both_sides}
 use Rattle.side.proofs.SuccessorExactly.{Says, says}
 use Rattle.tile.specs.Walk.{Moves, came_back, still_open, stuck}
-use Rattle.tile.specs.declared.Walked.{Walked}
-use Rattle.tile.specs.declared.Walked.TheVariants as walked
-use Rattle.tile.specs.declared.Verdict.TheVariants as verdict
 use Rattle.tile.specs.Columns.{Tile, R, start_side}
 use Rattle.tile.specs.Check.{sizes_wrong, start_wrong, verdict_of}
-use Rattle.tile.specs.Walk.{stuck_at, on_move, moves_from, moves, walk_of}
+use Rattle.tile.specs.Walk.{Walked, stuck_at, on_move, moves_from, moves, walk_of}
 use Rattle.tile.specs.Walk as walk
 use Rattle.facts.specs.Facts as tile
 use Rattle.facts.proofs.RefusedExactly as check
 use Rattle.load.specs.declared.Finding.{Finding}
-use Rattle.load.specs.declared.Loaded.{Loaded}
-use Rattle.load.specs.declared.Loaded.TheVariants as loaded
 use Rattle.load.specs.Sources.{Files, file_of, index_of}
-use Rattle.load.specs.Load.{load_of}
+use Rattle.load.specs.Load.{Loaded, load_of}
 use Rattle.load.specs.Words as load
 use Rattle.load.proofs.LoadedExactly as load_proofs
 use Rattle.directory.specs.declared.Sizes.{Sizes}
-use Rattle.directory.specs.declared.AtFault.{AtFault}
-use Rattle.directory.specs.declared.AtFault.TheVariants.{Is, Nothing}
 use Rattle.limits.specs.Limits.{program_rows}
-use Rattle.directory.specs.Files.{too_large}
+use Rattle.directory.specs.Files.{AtFault, too_large}
 use Rattle.directory.specs.Concerned.{file_of_finding}
 use Rattle.directory.specs.declared.Named.{Named}
-use Rattle.directory.specs.declared.Outcome.TheVariants as outcome
 use Rattle.directory.specs.Files.{Directory, cnx_read, files_read, sizes_taken}
 use Rattle.directory.specs.Outcome.{named, loaded_as, unless_at_fault, loaded_of}
 use Rattle.reader.specs.declared.Reader.{Reader}
@@ -122,16 +103,41 @@ module _ (l : List ℕ) where
   unfolding first
   either_first a b u v = either (eqb a.number 0) b a v u
 
+-- an answer that has one of these numbers where it refuses
+abbrev pub Refuses : {T : Type 0} → List ℕ → Result T Refusal → Type 0
+Refuses l x = (q : Refusal) → x ≡ Err q → Among l q.number
+
+module _ {T : Type 0} (l : List ℕ) where
+  either_answer : (b : Bool) (x y : Result T Refusal) → Refuses l x → Refuses l y → Refuses l (cond b x y)
+  either_answer true x y u v = u
+  either_answer false x y u v = v
+
+  no_refusal : (x : T) → Refuses l (Ok x)
+  no_refusal x q e = clash (cc)
+
+  with_number : (n p : ℕ) → has l n ≡ true → Refuses {T = T} l (Err (refusal n p))
+  with_number n p h q e = let v : refusal n p ≡ q = cc in one_of l q.number n (sym (ap (λ (r : Refusal). r.number) v)) h
+
+  -- x, unless r refuses
+  pub unless_listed : (r : Refusal) (x : T) → Listed l r → Refuses l (unless r x)
+  unless_listed r x h q e =
+      bool_cases (eqb r.number 0)
+      (λ c. let u = rw c at e in clash (cc))
+      (λ c.
+      let u = rw c at e in
+      let v : r ≡ q = cc in
+      subst (λ (p : Refusal). Among l p.number) v (⊎_elim (λ z. absurd (eqb-false r.number 0 c z)) (λ w. w) h))
+
 -- ---- wave heights, triplets
 
-pub wave_numbers : (text : List ℕ) (q : Refusal) → height_of text ≡ height.Refused q → Among of_wave q.number
+pub wave_numbers : (text : List ℕ) (q : Refusal) → height_of text ≡ Err q → Among of_wave q.number
 wave_numbers text q e = inl ((wave.refused-exactly text q).0 e).0
 
-pub judgement_numbers : (measured limit : List ℕ) (q : Refusal) → judgement_of measured limit ≡ judgement.Refused q → Among of_wave q.number
+pub judgement_numbers : (measured limit : List ℕ) (q : Refusal) → judgement_of measured limit ≡ Err q → Among of_wave q.number
 judgement_numbers measured limit q e =
     ⊎_elim (wave_numbers limit q) (λ w. wave_numbers measured q w.2) ((judged.refused-exactly measured limit q).0 e)
 
-pub triplet_numbers : (o : Order) (s : List ℕ) (q : Refusal) → triplet_of o s ≡ read.TheVariants.Refused q → Among of_triplet q.number
+pub triplet_numbers : (o : Order) (s : List ℕ) (q : Refusal) → triplet_of o s ≡ Err q → Among of_triplet q.number
 triplet_numbers o s q e = inl (ap (λ (r : Refusal). r.number) ((triplet.refused-exactly o s q).0 e).0)
 
 written-named : (len at : ℕ) (t : Ids) (n p : ℕ) → NotWritten len at t n p → Among of_writing n
@@ -139,7 +145,7 @@ written-named len at t n p (large_part w) = one_of of_writing 11 11 refl refl
 written-named len at t n p (place_beyond s h) = one_of of_writing 13 13 refl refl
 written-named len at t n p (no_room s a h) = one_of of_writing 14 14 refl refl
 
-pub write_numbers : (len at : ℕ) (t : Ids) (q : Refusal) → written_of len at t ≡ written.Refused q → Among of_writing q.number
+pub write_numbers : (len at : ℕ) (t : Ids) (q : Refusal) → written_of len at t ≡ Err q → Among of_writing q.number
 write_numbers len at t q e = written-named len at t q.number q.place ((not_written_exactly len at t q.number q.place).0 e)
 
 -- ---- headers, tables
@@ -155,35 +161,31 @@ header_named file header.columns_limit n p w = one_of of_header n 5 w.0 refl
 header_named file header.names_differ n p w = one_of of_header n 5 w.0 refl
 header_named file header.one_id n p w = one_of of_header n 6 w.0 refl
 
-pub header_numbers : (file : List ℕ) (q : Refusal) → (header_of file).answer ≡ answer.Refused q → Among of_header q.number
+pub header_numbers : (file : List ℕ) (q : Refusal) → header_of file ≡ Err q → Among of_header q.number
 header_numbers file q e =
     let w = (header_proofs.answer_refused_exactly file q.number q.place).0 e in
     header_named file w.test q.number q.place w.fails
 
 -- a step: the header's own, or 13 at a place where no definition starts
-from_named : (s : List ℕ) (n place k : ℕ) (q : Refusal) → step_from s n place k ≡ step.Refused q → Among of_step q.number
-from_named s n place zero q e =
-    bool_cases (eqb place (place_after s n)) (λ c. let w = rw c at e in clash (cc))
-    (λ c.
-    let u : step.Refused (refusal 13 place) ≡ step.Refused q = rw c at e in
-    let v : refusal 13 place ≡ q = cc in
-    inl (sym (ap (λ (r : Refusal). r.number) v)))
-from_named s n place (suc k) q e = clash (cc)
+from_named : (s : List ℕ) (n place k : ℕ) → Refuses of_step (step_from s n place k)
+from_named s n place zero =
+    either_answer of_step (eqb place (place_after s n)) _ _ (no_refusal of_step None) (with_number of_step 13 place refl)
+from_named s n place (suc k) = no_refusal of_step (Some (definition s place))
 
-pub step_numbers : (file : List ℕ) (place : ℕ) (q : Refusal) → step_of file place ≡ step.Refused q → Among of_step q.number
+pub step_numbers : (file : List ℕ) (place : ℕ) → Refuses of_step (step_of file place)
 unfolding step_of
 step_numbers file place q e =
     let r = header_refusal file in
     bool_cases (eqb r.number 0)
     (λ c. from_named (head_of file) (column_count file) place (starts_at (head_of file) (column_count file) place) q (rw c at e))
     (λ c.
-    let u : step.Refused r ≡ step.Refused q = rw c at e in
+    let u = rw c at e in
     let v : r ≡ q = cc in
     let w = (header_proofs.refused-exactly file q.number q.place).0
     (v, λ z. eqb-false r.number 0 c (ap (λ (x : Refusal). x.number) v ∙ z)) in
     inr (header_named file w.test q.number q.place w.fails))
 
-pub reader_numbers : (r : Reader) (q : Refusal) → gives r ≡ step.Refused q → Among of_step q.number
+pub reader_numbers : (r : Reader) (q : Refusal) → gives r ≡ Err q → Among of_step q.number
 reader_numbers r q e = step_numbers r.file.now r.at q e
 
 opening-named : (file index : List ℕ) (most : ℕ) (x : opening_words.Test) (n p : ℕ)
@@ -197,7 +199,7 @@ opening-named file index most opening_words.entries n p w = one_of of_opening n 
 opening-named file index most opening_words.last_end n p w = one_of of_opening n 8 w.0 refl
 
 pub opening_numbers : (file index : List ℕ) (most : ℕ) (q : Refusal)
-    → (opened_of file index most).answer ≡ answer.Refused q → Among of_opening q.number
+    → opened_of file index most ≡ Err q → Among of_opening q.number
 opening_numbers file index most q e =
     let w = (opening.answer_refused_exactly file index most q.number q.place).0 e in
     opening-named file index most w.test q.number q.place w.fails
@@ -205,9 +207,9 @@ opening_numbers file index most q e =
 -- ---- rows and values, of any table value
 
 used_up_listed : (x : Reach) (end i : ℕ) (rest : Refusal) → Listed of_row rest → Listed of_row (used_up x end i rest)
-used_up_listed (reached.At p) end i rest u = either of_row (eqb p end) rest (refusal 10 i) u (inr (one_of of_row 10 10 refl refl))
-used_up_listed reached.Short end i rest u = inr (one_of of_row 10 10 refl refl)
-used_up_listed (reached.Cut q) end i rest u = inr (one_of of_row 11 11 refl refl)
+used_up_listed (Ok p) end i rest u = either of_row (eqb p end) rest (refusal 10 i) u (inr (one_of of_row 10 10 refl refl))
+used_up_listed (Err Short) end i rest u = inr (one_of of_row 10 10 refl refl)
+used_up_listed (Err (BadTriplet q)) end i rest u = inr (one_of of_row 11 11 refl refl)
 
 module _ (s : List ℕ) (l : Layout) (start end i : ℕ) where
   id_listed : (p : ℕ) → Listed of_row (id_refusal s l p i)
@@ -245,79 +247,57 @@ judge_rows_numbers file index t =
     at_row_listed of_row (row_judged file index l) (λ i. row_listed file l (bound_of l index (pred i)) (bound_of l index i) i)
     (lowest (refuses (row_judged file index l)) (rows_of t))
 
-pub row_numbers : (file index : List ℕ) (t : Table) (i : ℕ) (q : Refusal) → row_of file index t i ≡ row.Refused q → Among of_value q.number
+pub row_numbers : (file index : List ℕ) (t : Table) (i : ℕ) → Refuses of_value (row_of file index t i)
 unfolding row_of
-row_numbers file index t i q e =
-    let x = row_refusal file t.layout (bound_of t.layout index (pred i)) (bound_of t.layout index i) i in
-    bool_cases (no_such_row t i)
-    (λ a. let u : row.Refused (refusal 13 i) ≡ row.Refused q = rw a at e in let v : refusal 13 i ≡ q = cc in one_of of_value q.number 13 (sym (ap (λ (r : Refusal). r.number) v)) refl)
-    (λ a.
-    bool_cases (eqb x.number 0)
-    (λ z. let u = rw (a, z) at e in clash (cc))
-    (λ z.
-    let u : row.Refused x ≡ row.Refused q = rw (a, z) at e in
-    let v : x ≡ q = cc in
-    let w = row_listed file t.layout (bound_of t.layout index (pred i)) (bound_of t.layout index i) i in
-    subst (λ (r : Refusal). Among of_value r.number) v
-    (⊎_elim (λ zero. absurd (eqb-false x.number 0 z zero)) (also of_row of_value x.number refl) w)))
+row_numbers file index t i =
+    let start = bound_of t.layout index (pred i) in
+    let end = bound_of t.layout index i in
+    let r = row_refusal file t.layout start end i in
+    either_answer of_value (no_such_row t i) _ _ (with_number of_value 13 i refl)
+    (unless_listed of_value r (record { start = start; end = end })
+    (⊎_elim inl (λ h. inr (also of_row of_value r.number refl h)) (row_listed file t.layout start end i)))
 
--- a value that is refused has one of these numbers
-abbrev ValueListed : Value → Type 0
-ValueListed v = (q : Refusal) → v ≡ value.Refused q → Among of_value q.number
-
-either_value : (b : Bool) (x y : Value) → ValueListed x → ValueListed y → ValueListed (cond b x y)
-either_value true x y u v = u
-either_value false x y u v = v
-
-triplet_value : (o : Order) (b : List ℕ) (x : read.Triplet) → triplet_of o b ≡ x → ValueListed (triplet_of_read x)
-triplet_value o b (read.TheVariants.Is ids n) e q u = clash (cc)
-triplet_value o b (read.TheVariants.Refused r) e q u =
+triplet_value : (o : Order) (b : List ℕ) (x : Reading) → triplet_of o b ≡ x → Refuses of_value (triplet_of_read x)
+triplet_value o b (Ok t) e q u = clash (cc)
+triplet_value o b (Err r) e q u =
     let v : r ≡ q = cc in also of_triplet of_value q.number refl
     (subst (λ (r : Refusal). Among of_triplet r.number) v (triplet_numbers o b r e))
 
+-- a field of any type but a triplet's has a value, whatever its bytes are
 module _ (o : Order) (s : List ℕ) (c : ColumnLayout) (p end : ℕ) where
-  type_value : (x : FieldType) → ValueListed (by_type x o s c p end)
-  type_value type.Text = λ q e. clash (cc)
-  type_value type.Latin = λ q e. clash (cc)
-  type_value type.Float = let b = number o s p 4 in either_value (float_is_null b) (value.FloatNull b) (value.Float b)
-      (λ q e. clash (cc)) (λ q e. clash (cc))
-  type_value type.Double = let b = number o s p 8 in either_value (double_is_null b) (value.DoubleNull b) (value.Double b)
-      (λ q e. clash (cc)) (λ q e. clash (cc))
-  type_value type.Short = let b = number o s p 2 in either_value (short_is_null b) value.ShortNull
-      (value.Short (signed short_half b)) (λ q e. clash (cc)) (λ q e. clash (cc))
-  type_value type.Integer = let b = number o s p 4 in either_value (integer_is_null b) value.IntegerNull
-      (value.Integer (signed integer_half b)) (λ q e. clash (cc)) (λ q e. clash (cc))
-  type_value type.ShortPair = λ q e. clash (cc)
-  type_value type.ShortTriple = λ q e. clash (cc)
-  type_value type.DoublePair = λ q e. clash (cc)
-  type_value type.DoubleTriple = λ q e. clash (cc)
-  type_value type.Date = λ q e. clash (cc)
-  type_value type.NullField = λ q e. clash (cc)
-  type_value type.Triplet = triplet_value o (take (end - p) (drop p s)) (triplet_of o (take (end - p) (drop p s))) refl
+  type_value : (x : FieldType) → Refuses of_value (by_type x o s c p end)
+  type_value type.Text q e = clash (cc)
+  type_value type.Latin q e = clash (cc)
+  type_value type.Float q e = clash (cc)
+  type_value type.Double q e = clash (cc)
+  type_value type.Short q e = clash (cc)
+  type_value type.Integer q e = clash (cc)
+  type_value type.ShortPair q e = clash (cc)
+  type_value type.ShortTriple q e = clash (cc)
+  type_value type.DoublePair q e = clash (cc)
+  type_value type.DoubleTriple q e = clash (cc)
+  type_value type.Date q e = clash (cc)
+  type_value type.NullField q e = clash (cc)
+  type_value type.Triplet q e = triplet_value o (take (end - p) (drop p s)) (triplet_of o (take (end - p) (drop p s))) refl q e
 
-  shown-value : ValueListed (shown o s c p end)
+  shown-value : Refuses of_value (shown o s c p end)
   unfolding shown
   shown-value = type_value c.kind
 
-in_row-value : (x : Row) (f : ℕ → ℕ → Value) → ((q : Refusal) → x ≡ row.Refused q → Among of_value q.number)
-    → ((a b : ℕ) → ValueListed (f a b)) → ValueListed (in_row x f)
-in_row-value (row.Between a b) f h g = g a b
-in_row-value (row.Refused r) f h g = λ q e. let v : r ≡ q = cc in h q (ap row.Refused v)
+in_row-value : (x : Row) (f : ℕ → ℕ → ValueRead) → Refuses of_value x → ((a b : ℕ) → Refuses of_value (f a b)) → Refuses of_value (in_row x f)
+in_row-value (Ok lies) f h g = g lies.start lies.end
+in_row-value (Err r) f h g = λ q e. let v : r ≡ q = cc in h q (ap Err v)
 
-no_such_value : (k : ℕ) → ValueListed (value.Refused (refusal 13 k))
-no_such_value k q e = let v : refusal 13 k ≡ q = cc in one_of of_value q.number 13 (sym (ap (λ (r : Refusal). r.number) v)) refl
-
-pub value_numbers : (file index : List ℕ) (t : Table) (i k : ℕ) → ValueListed (value_of file index t i k)
+pub value_numbers : (file index : List ℕ) (t : Table) (i k : ℕ) → Refuses of_value (value_of file index t i k)
 unfolding value_of
 value_numbers file index t i k =
     let l = t.layout in
-    let f : ℕ → ℕ → Value = λ start end. shown l.order file (column_at l k) (column_place file l start end k) end in
-    either_value (no_such_row t i) _ _ (no_such_value i)
-    (either_value (no_such_column l k) _ _ (no_such_value k)
-    (in_row-value (row_of file index t i) f (row_numbers file index t i)
+    either_answer of_value (no_such_row t i) _ _ (with_number of_value 13 i refl)
+    (either_answer of_value (no_such_column l k) _ _ (with_number of_value 13 k refl)
+    (in_row-value (row_of file index t i) (field_in file l k) (row_numbers file index t i)
     (λ a b. shown-value l.order file (column_at l k) (column_place file l a b k) b)))
 
-pub bounds_numbers : (c : Coordinates) (q : Refusal) → bounds_of c ≡ refused q → Among of_bounds q.number
+pub bounds_numbers : (c : Coordinates) (q : Refusal) → bounds_of c ≡ Err q → Among of_bounds q.number
 bounds_numbers c q e = inl (bounds.refused-number c q e)
 
 pub rectangle_numbers : (file index : List ℕ) (t : Table) (i k : ℕ) (q : Refusal)
@@ -352,7 +332,7 @@ module _ (f : Files) (most : ℕ) (lengths : List ℕ) (q : Finding) where
       row_named (file_of f n) (load.layout_in f n) (load.row_start f n w.0) (load.row_end f n w.0) w.0
       q.refusal.number q.refusal.place w.3
 
-  pub load_numbers : load_of f most lengths ≡ loaded.Refused q → Among of_load q.refusal.number
+  pub load_numbers : load_of f most lengths ≡ Err q → Among of_load q.refusal.number
   load_numbers e = let w = (load_proofs.refused-exactly f most lengths q).0 e in load-named w.test w.fails
 
 -- ---- a tile checked and walked
@@ -381,27 +361,27 @@ check_named t space tile.covered n p w = one_of of_check n 31 w.0 refl
 pub among_some : (n : ℕ) → n ≡ 0 → Among of_check n → ⊥
 among_some n z h = none_zero of_check refl n z h
 
-pub check_numbers : (t : Tile) (space : ℕ) (q : Refusal) → verdict_of t space ≡ verdict.Refused q → Among of_check q.number
+pub check_numbers : (t : Tile) (space : ℕ) (q : Refusal) → verdict_of t space ≡ Err q → Among of_check q.number
 check_numbers t space q e =
     let w = check.refused t space q.number q.place e in
     check_named t space w.test q.number q.place w.fails
 
 -- what is wrong at a side
-side_named : (l : List ℕ) → has_all l of_successor ≡ true → (t : Edges) (s n : ℕ) → Says t s (Wrong n) → Among l n
-side_named l h t s n =
-    ⊎_elim (λ w. also of_successor l n h (one_of of_successor n 22 w.0 refl))
-    (λ w. also of_successor l n h (fault_named of_successor refl t s n w.1))
+side_named : (l : List ℕ) → has_all l of_successor ≡ true → (t : Edges) (s : ℕ) (k : Kind) → Says t s (Err k) → Among l (number_of k)
+side_named l h t s k =
+    ⊎_elim (λ w. also of_successor l (number_of k) h (one_of of_successor (number_of k) 22 w.0 refl))
+    (λ w. also of_successor l (number_of k) h (fault_named of_successor refl t s (number_of k) w.1))
 
-pub successor_numbers : (t : Edges) (s n : ℕ) → successor t s ≡ Wrong n → Among of_successor n
-successor_numbers t s n e = side_named of_successor refl t s n (subst (Says t s) e (says t s))
+pub successor_numbers : (t : Edges) (s : ℕ) (k : Kind) → successor t s ≡ Err k → Among of_successor (number_of k)
+successor_numbers t s k e = side_named of_successor refl t s k (subst (Says t s) e (says t s))
 
 -- a move that cannot be made
 module _ (t : Edges) (a : ℕ) where
   on_move-named : (s : ℕ) (g : ℕ → Moves) → ((u : ℕ) (q : Refusal) → g u ≡ stuck q → Among of_walk q.number)
       → (x : Successor) → Says t s x → (q : Refusal) → on_move s x g ≡ stuck q → Among of_walk q.number
-  on_move-named s g rest (Side u) h q e = rest u q e
-  on_move-named s g rest (Wrong n) h q e = let v : stuck_at n s ≡ q = cc in subst
-      (λ (r : Refusal). Among of_walk r.number) v (side_named of_walk refl t s n h)
+  on_move-named s g rest (Ok u) h q e = rest u q e
+  on_move-named s g rest (Err k) h q e = let v : stuck_at (number_of k) s ≡ q = cc in subst
+      (λ (r : Refusal). Among of_walk r.number) v (side_named of_walk refl t s k h)
 
   stuck-named : (fuel s k : ℕ) (q : Refusal) → moves_from t a fuel s k ≡ stuck q → Among of_walk q.number
   stuck-named zero s k q e = clash (cc)
@@ -410,46 +390,32 @@ module _ (t : Edges) (a : ℕ) where
       (λ u q e. bool_cases (eqb u a) (λ c. let w = rw c at e in clash (cc)) (λ c. stuck-named fuel u (suc k) q (rw c at e)))
       (successor t s) (says t s) q e
 
--- a walk that is refused has one of these numbers
-abbrev WalkListed : Walked → Type 0
-WalkListed x = (q : Refusal) → x ≡ walked.Refused q → Among of_walk q.number
-
-walk_with : (n p : ℕ) → has of_walk n ≡ true → WalkListed (walked.Refused (refusal n p))
-walk_with n p h q e = let v : refusal n p ≡ q = cc in one_of of_walk q.number n (sym (ap (λ (r : Refusal). r.number) v)) h
-
-no_refusal : (k : ℕ) → WalkListed (walked.Steps k)
-no_refusal k q e = clash (cc)
-
-either_walk : (b : Bool) (x y : Walked) → WalkListed x → WalkListed y → WalkListed (cond b x y)
-either_walk true x y u v = u
-either_walk false x y u v = v
-
-moves_walk : (r space : ℕ) (x : Moves) → ((q : Refusal) → x ≡ stuck q → Among of_walk q.number) → WalkListed (walk.walked r space x)
-moves_walk r space (came_back k) h = either_walk (ltb space k) (walked.Refused (refusal 14 k)) (walked.Steps k) (walk_with 14 k refl) (no_refusal k)
-moves_walk r space still_open h = walk_with 32 r refl
+moves_walk : (r space : ℕ) (x : Moves) → ((q : Refusal) → x ≡ stuck q → Among of_walk q.number) → Refuses of_walk (walk.walked r space x)
+moves_walk r space (came_back k) h = either_answer of_walk (ltb space k) _ _ (with_number of_walk 14 k refl) (no_refusal of_walk k)
+moves_walk r space still_open h = with_number of_walk 32 r refl
 moves_walk r space (stuck p) h = λ q e. let v : p ≡ q = cc in h q (ap stuck v)
 
-pub walk_numbers : (t : Tile) (r space : ℕ) → WalkListed (walk_of t r space)
+pub walk_numbers : (t : Tile) (r space : ℕ) → Refuses of_walk (walk_of t r space)
 unfolding walk_of moves
 walk_numbers t r space =
-    either_walk (sizes_wrong t) _ _ (walk_with 15 0 refl)
-    (either_walk (side.outside (R t) r) _ _ (walk_with 13 r refl)
-    (either_walk (start_wrong t r) _ _ (walk_with 29 r refl)
-    (either_walk (eqb (start_side t r) 0) _ _ (no_refusal 0)
+    either_answer of_walk (sizes_wrong t) _ _ (with_number of_walk 15 0 refl)
+    (either_answer of_walk (side.outside (R t) r) _ _ (with_number of_walk 13 r refl)
+    (either_answer of_walk (start_wrong t r) _ _ (with_number of_walk 29 r refl)
+    (either_answer of_walk (eqb (start_side t r) 0) _ _ (no_refusal of_walk 0)
     (moves_walk r space (moves t.edg (start_side t r)) (stuck-named t.edg (start_side t r) (side.side_count t.edg) (start_side t r) 0)))))
 
 -- ---- a directory loaded
 
 load-named_by : (f : Files) (lengths : List ℕ) (cnx_read : Bool) (w : Named) (x : AtFault) (l : Loaded) → load_of f program_rows lengths ≡ l
-    → unless_at_fault x (loaded_as cnx_read l) ≡ outcome.Refused w → Among of_load w.refusal.number
-load-named_by f lengths cnx_read w (Is n) l g e =
+    → unless_at_fault x (loaded_as cnx_read l) ≡ Err w → Among of_load w.refusal.number
+load-named_by f lengths cnx_read w (Some n) l g e =
     let h : named n (refusal 15 0) ≡ w = cc in one_of of_load w.refusal.number 15 (sym (ap (λ (x : Named). x.refusal.number) h)) refl
-load-named_by f lengths cnx_read w Nothing (loaded.Tile c) g e = clash (cc)
-load-named_by f lengths cnx_read w Nothing (loaded.Refused q) g e =
+load-named_by f lengths cnx_read w None (Ok c) g e = clash (cc)
+load-named_by f lengths cnx_read w None (Err q) g e =
     let h : named (file_of_finding cnx_read q) q.refusal ≡ w = cc in
     subst (λ (x : Named). Among of_load x.refusal.number) h (load_numbers f program_rows lengths q g)
 
-pub directory-load_numbers : (z : Sizes) (d : Directory) (lengths : List ℕ) (w : Named) → loaded_of z d lengths ≡ outcome.Refused w
+pub directory-load_numbers : (z : Sizes) (d : Directory) (lengths : List ℕ) (w : Named) → loaded_of z d lengths ≡ Err w
     → Among of_load w.refusal.number
 unfolding loaded_of
 directory-load_numbers z d lengths w e =

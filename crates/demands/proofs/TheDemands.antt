@@ -7,18 +7,21 @@
 -- counts (`load-answered`), the check accepts that tile, `demand3` speaks of its walks, and the sum of 2E is 2 times the counted edges
 -- (`walked`). The program's own marks and output have room for two sides to each of the rows that it takes (`edges_few`), and no ring's
 -- list is longer than 2E (`list_few`): so every walk is answered, and the text has the lists' lengths and the sum (`text_told`).
-use mathlib.Core.Path.{◌≡◌, refl, sym, ap, ◌∙◌}
+use mathlib.Core.Path.{◌≡◌, refl, sym, ap, subst, ◌∙◌}
 use mathlib.Core.Logic.{◌↔◌}
 use mathlib.Core.Bool.{true}
 use mathlib.Core.List.{List}
-use Prim.Native.Nat.{ℕ, ◌*◌, ◌≤◌}
+use Prim.Native.Nat.{ℕ, ◌*◌, ◌≤◌, ◌<◌}
+use Rattle.std.specs.Prelude.{Result, Ok, Err}
 use native.Mathlib.Omega.{arith}
 use borrow.Author.Tests.{lt-ltb, ltb-true}
 use lib.Ieee.{Format}
 use lib.ListN.{length, replicate, length-replicate}
-use Rattle.laws.specs.Lowest.{In}
+use Rattle.laws.specs.Lowest.{In, lowest}
 use Rattle.laws.proofs.BufferLaws.{length-listed}
 use Rattle.laws.proofs.SumLaws.{sum_part}
+use Rattle.laws.proofs.TestLaws.{clash}
+use Rattle.refusal.specs.declared.Refusal.{Refusal}
 use Rattle.triplet.proofs.ReadExactly as triplet
 use Rattle.triplet.proofs.WrittenExactly as written
 use Rattle.triplet.proofs.RoundTrip.{row_round_trip}
@@ -29,17 +32,23 @@ use Rattle.wave.proofs.Verdict as judged
 use Rattle.grammar.specs.Words.{Reading}
 use Rattle.grammar.proofs.AmendedGrammar.{amended}
 use Rattle.header.specs.Words.{AcceptedHeader}
+use Rattle.header.proofs.JudgeLaws.{given}
+use Rattle.header.proofs.HeaderLaws.{given_header}
 use Rattle.header.proofs.AcceptedExactly as accepted
 use Rattle.header.proofs.RefusedExactly as refused
-use Rattle.header.proofs.LayoutMeans.{laid_out_lem, refused_blank}
+use Rattle.header.proofs.LayoutMeans.{laid_out_lem, refused_no_layout}
 use Rattle.header.proofs.ColumnOfName.{column_of-name, column_of-name_only, refused_no_column}
 use Rattle.header.specs.LayoutWords.{layout_at, ShowsK}
 use Rattle.header.proofs.TripletShown.{lowest_triplet_exactly}
 use Rattle.header.proofs.StepsInOrder as steps
 use Rattle.reader.proofs.ReaderInOrder as reader
-use Rattle.opening.specs.Words.{layout_of, Opens}
+use Rattle.header.specs.declared.Header.{Header}
+use Rattle.header.specs.Layouts.{layout_of, handed_on, header_of}
+use Rattle.opening.specs.declared.Opened.{Opened}
+use Rattle.opening.specs.Opening.{table_refusal, opened, opened_of}
+use Rattle.opening.specs.Words.{Opens}
 use Rattle.opening.proofs.OpenedExactly as opening
-use Rattle.table.specs.Rows.{column_at}
+use Rattle.table.specs.Rows.{column_at, columns_of}
 use Rattle.table.proofs.RowsPartition.{rows_partition, row_lies}
 use Rattle.table.proofs.RowExactly.{row_of_exactly}
 use Rattle.table.proofs.RowRefusedExactly.{row_of_refused_exactly}
@@ -54,7 +63,10 @@ use Rattle.load.specs.declared.Counts.{Counts}
 use Rattle.load.specs.Load.{load_of}
 use Rattle.load.proofs.LoadedExactly as load
 use Rattle.load.proofs.WhatIsWritten.{element_is_value, rest_as_it_was}
+use Rattle.refusal.specs.declared.Kind.TheVariants.{EdgeOutOfRange}
+use Rattle.refusal.specs.Kinds.{number_of}
 use Rattle.side.specs.Edges.{Edges}
+use Rattle.side.specs.Successor.{Fault}
 use Rattle.side.proofs.SuccessorExactly as successor
 use Rattle.facts.proofs.AcceptedExactly as check
 use Rattle.facts.proofs.RefusedExactly as tile
@@ -65,14 +77,12 @@ use Rattle.tile.specs.Walk.{walk_of, steps_of, all_steps, side_after, ring_steps
 use Rattle.facts.specs.Demand.{Demand3 as Walked}
 use Rattle.facts.proofs.StartExactly.{start_side_exactly, start_zero_exactly}
 use Rattle.facts.proofs.WalkExactly as walk
-use Rattle.directory.specs.declared.AtFault.{AtFault}
 use Rattle.directory.specs.declared.Sizes.{Sizes}
 use Rattle.limits.specs.Limits.{program_rows, program_sides}
-use Rattle.directory.specs.Files.{has_triplet, shows_triplet}
+use Rattle.directory.specs.Files.{triplet_column, has_triplet, head_shows_triplet, shows_triplet}
 use Rattle.report.specs.Lines.{refuse_line}
 use Rattle.directory.specs.declared.Named.{Named}
-use Rattle.directory.specs.declared.Outcome.TheVariants.{Accepted, Refused}
-use Rattle.directory.specs.Files.{Directory, cnx_read, files_read}
+use Rattle.directory.specs.Files.{Directory, AtFault, cnx_read, files_read}
 use Rattle.directory.specs.Outcome.{tile_said, loaded_as, unless_at_fault, loaded_of, outcome_of}
 use Rattle.directory.specs.Words.{AcceptedWith}
 use Rattle.directory.proofs.OutcomeLaws.{held_said, loaded_checked}
@@ -140,6 +150,15 @@ columns_mean file h a =
           steps.step_elsewhere file h a place (λ k l e. none k l (e ∙ sym (steps.place_after_steps file h a k l)));
     }
 
+-- a table is handed on exactly when it opens
+opened_exactly : (file index : List ℕ) (most : ℕ)
+    → ((o : Opened) × (opened_of file index most ≡ Ok o)) ↔ ((h : Reading) × (n : ℕ) × Opens file index most h n)
+unfolding opened_of
+opened_exactly file index most = (
+  λ w. (opening.opened_exactly file index most).0 (given (table_refusal file index most) (opened file index) w.0 w.1).0,
+  λ w. (opened file index, (opening.answer_opened_exactly file index most).1 w),
+)
+
 -- the coordinates of a field, at the place where the fields before it end
 module _ (file index : List ℕ) (most : ℕ) (h : Reading) (n : ℕ) (o : Opens file index most h n) (i : ℕ) (r : In n i) where
   coordinates_of_field : (right : RowRight file index i) (k : ℕ) → In (layout_of file).columns k
@@ -155,8 +174,14 @@ successor_means : (t : Edges) (s : ℕ) → SuccessorMeans t s
 successor_means t s =
     record {
       is = λ u. (successor.successor_follows t s u, successor.follows_successor t s u);
-      wrong = λ n l. (successor.wrong_fault t s n l, successor.fault_wrong t s n l);
-      no_link = (successor.wrong_link t s, successor.link_wrong t s);
+      wrong = λ n l. (
+        λ w. subst (Fault t s) w.1 (successor.wrong_fault t s w.0 l w.2),
+        successor.fault_answer t s n l,
+      );
+      no_link = (
+        λ w l. let b = successor.fault_number t s (number_of w.0) (successor.wrong_fault t s w.0 l w.2) in omega (arith, b.0, w.1),
+        λ none. (EdgeOutOfRange, refl, successor.link_wrong t s none),
+      );
     }
 
 walk_means : (t : Tile) (r : ℕ) → WalkMeans t r
@@ -170,16 +195,26 @@ walk_means t r =
       writes = walk.walk_writes t r;
     }
 
--- "once cnd's header is accepted and shows K"
+-- "once cnd's header is accepted and shows K": a header that is given has a column of that type, and a refused one has none
+triplet_shown : (r : Result Header Refusal)
+    → (head_shows_triplet r ≡ true) ↔ ((head : Header) × (r ≡ Ok head) × (0 < lowest (triplet_column head.layout) (columns_of head.layout)))
+unfolding has_triplet
+triplet_shown (Ok head) = (
+  λ e. (head, refl, ltb-true 0 _ e),
+  λ w. let v : head ≡ w.0 = cc in lt-ltb 0 _
+      (subst (λ (x : Header). 0 < lowest (triplet_column x.layout) (columns_of x.layout)) (sym v) w.2),
+)
+triplet_shown (Err q) = (λ e. clash (cc), λ w. let no = w.1 in clash (cc))
+
 cnx_read_exactly : (d : Directory) → (cnx_read d ≡ true) ↔ ShowsK d.cnd
-unfolding shows_triplet has_triplet
+unfolding shows_triplet
 cnx_read_exactly d = (
-  λ e. (lowest_triplet_exactly d.cnd).0 (ltb-true 0 _ e),
-  λ w. lt-ltb 0 _ ((lowest_triplet_exactly d.cnd).1 w),
+  λ e. (lowest_triplet_exactly d.cnd).0 ((triplet_shown (header_of d.cnd)).0 e),
+  λ w. (triplet_shown (header_of d.cnd)).1 ((lowest_triplet_exactly d.cnd).1 w),
 )
 
 -- what is written of a refused directory
-refused_text : (z : Sizes) (d : Directory) (w : Named) → outcome_of z d own_columns program_sides ≡ Refused w
+refused_text : (z : Sizes) (d : Directory) (w : Named) → outcome_of z d own_columns program_sides ≡ Err w
     → text_of z d ≡ refuse_line w.file w.refusal
 unfolding text_of
 refused_text z d w e = rw e refl
@@ -195,14 +230,18 @@ directories_mean z d lengths space =
 pub demand_2 : Demand2
 demand_2 = record {
   headers = λ file. record {
-    accepted = accepted.answer_accepted_exactly file;
+    accepted = (
+      λ w. (accepted.accepted_exactly file).0 (given_header file w.0 w.1).0,
+      λ w. (handed_on file, (accepted.answer_accepted_exactly file).1 w),
+    );
+    hands_on = λ head e. (given_header file head e).1;
     one_reading = accepted.accepted_once file;
     refused = refused.answer_refused_exactly file;
   };
   amended = amended;
   columns = columns_mean;
   no_columns = λ file n p w. record {
-    layout = refused_blank file n p w;
+    layout = refused_no_layout file n p w;
     named = λ name. refused_no_column file name n p w;
     starts = steps.refused_start file n p w;
     gives = steps.refused_everywhere file n p w;
@@ -216,7 +255,7 @@ demand_2 = record {
   };
   readers_refused = reader.refused-first;
   tables = λ file index most. record {
-    opened = opening.answer_opened_exactly file index most;
+    opened = opened_exactly file index most;
     one_table = opening.opened_once file index most;
     as_opened = opening.opened_table file index most;
     refused = opening.answer_refused_exactly file index most;
@@ -281,14 +320,14 @@ list_few t marks w r i =
     omega (arith, length-listed (side_after t r) (ring_steps t r), sum_part (ring_steps t) (R t) r i.0 i.1, w.lists_add_up)
 
 -- an accepted directory: what its stages left
-module _ (z : Sizes) (d : Directory) (lengths marks : List ℕ) (c : Counts) (e : outcome_of z d lengths (length marks) ≡ Accepted c) where
+module _ (z : Sizes) (d : Directory) (lengths marks : List ℕ) (c : Counts) (e : outcome_of z d lengths (length marks) ≡ Ok c) where
   abbrev t : Tile
   t = tile_said (files_read d)
 
   in_words : AcceptedWith z d lengths (length marks) c
   in_words = (directory.accepted_exactly z d lengths (length marks) c).0 e
 
-  load-answered : loaded_of z d lengths ≡ Accepted c
+  load-answered : loaded_of z d lengths ≡ Ok c
   unfolding loaded_of
   load-answered =
       ap (λ (x : AtFault). unless_at_fault x (loaded_as (cnx_read d) (load_of (files_read d) program_rows lengths)))
@@ -321,11 +360,11 @@ module _ (z : Sizes) (d : Directory) (lengths marks : List ℕ) (c : Counts) (e 
   edges_few = (in_words.loads.opens Edg).1.as_asked
 
 -- its text: the program's own marks are as long as two sides to an edge ask
-module _ (z : Sizes) (d : Directory) (c : Counts) (e : outcome_of z d own_columns program_sides ≡ Accepted c) where
+module _ (z : Sizes) (d : Directory) (c : Counts) (e : outcome_of z d own_columns program_sides ≡ Ok c) where
   abbrev marks : List ℕ
   marks = replicate program_sides 0
 
-  with_marks : outcome_of z d own_columns (length marks) ≡ Accepted c
+  with_marks : outcome_of z d own_columns (length marks) ≡ Ok c
   with_marks = let q : length marks ≡ program_sides = length-replicate {A = ℕ} program_sides 0 in rw q e
 
   abbrev w : DirectoryWalked z d own_columns marks c

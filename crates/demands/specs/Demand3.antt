@@ -8,17 +8,15 @@
 -- follow in its face's run. .. Demand 3 then speaks of the rings with a start edge, and the sum stays twice the edge count."
 --
 -- `Walked t marks` has a field for each of these: it is `Demand3` of crate `facts` (specs/Demand.antt).
-use Rattle.std.specs.Prelude.{◌≡◌, List, ◌++◌, ℕ, ◌*◌, ◌≤◌, length}
+use Rattle.std.specs.Prelude.{◌≡◌, List, ◌++◌, ℕ, ◌*◌, ◌≤◌, length, Ok}
 use Rattle.laws.specs.Lowest.{In}
 use Rattle.load.specs.declared.Counts.{Counts}
 use Rattle.tile.specs.Columns.{Tile, E, F, R, N}
-use Rattle.tile.specs.declared.Verdict.TheVariants as verdict
 use Rattle.tile.specs.Check.{verdict_of}
 use Rattle.tile.specs.Walk.{all_steps, ring_sides}
 use Rattle.facts.specs.Demand.{Demand3 as Walked}
 use Rattle.directory.specs.declared.Sizes.{Sizes}
 use Rattle.report.specs.Lines.{accept_line, steps_line}
-use Rattle.directory.specs.declared.Outcome.TheVariants as outcome
 use Rattle.load.specs.Columns.{Columns}
 use Rattle.directory.specs.Columns.{held}
 use Rattle.directory.specs.Files.{Directory, files_read}
@@ -31,15 +29,15 @@ use Rattle.teller.specs.Text.{own_columns, steps_from, ring_lines, text_of}
 -- the same of a directory that is accepted with the counts c; `lengths` are those of the ten lent columns, `marks` the lent owner marks
 pub record DirectoryWalked (z : Sizes) (d : Directory) (lengths marks : List ℕ) (c : Counts) : Type 0 where
   -- the check accepts the tile that its files say, and c counts its edges, faces, rings and nodes
-  pub accepted : verdict_of (tile_said (files_read d)) (length marks) ≡ verdict.Accepted
+  pub accepted : verdict_of (tile_said (files_read d)) (length marks) ≡ Ok tt
   pub counts-edges : E (tile_said (files_read d)) ≡ c.edges
   pub counts-faces : F (tile_said (files_read d)) ≡ c.faces
   pub counts_rings : R (tile_said (files_read d)) ≡ c.rings
   pub counts-nodes : N (tile_said (files_read d)) ≡ c.nodes
   -- that tile stands at the front of the ten lent columns, where `check_loaded` accepts it and `walk_ring` walks it
-  pub loads : loaded_of z d lengths ≡ outcome.Accepted c
-  pub columns : (l : Columns) → held c (columns_after (outcome.Accepted c) (files_read d) l) ≡ tile_said (files_read d)
-  pub checks : (l : Columns) → checked_of c (columns_after (outcome.Accepted c) (files_read d) l) (length marks) ≡ outcome.Accepted c
+  pub loads : loaded_of z d lengths ≡ Ok c
+  pub columns : (l : Columns) → held c (columns_after (Ok c) (files_read d) l) ≡ tile_said (files_read d)
+  pub checks : (l : Columns) → checked_of c (columns_after (Ok c) (files_read d) l) (length marks) ≡ Ok c
   -- demand 3 holds of it, and so the reported steps of all its ring rows, given room for each walk, add up to twice the edges
   pub walks : Walked (tile_said (files_read d)) marks
   pub reported : (space : ℕ) → 2 * c.edges ≤ space → all_steps (tile_said (files_read d)) space c.rings ≡ 2 * c.edges
@@ -52,7 +50,7 @@ pub record TextTold (z : Sizes) (d : Directory) (c : Counts) : Type 0 where
 -- ======== TILES, AND DIRECTORIES
 
 pub record Demand3 : Type 0 where
-  pub tiles : (t : Tile) (marks : List ℕ) → verdict_of t (length marks) ≡ verdict.Accepted → Walked t marks
-  pub directories : (z : Sizes) (d : Directory) (lengths marks : List ℕ) (c : Counts) → outcome_of z d lengths (length marks) ≡ outcome.Accepted c
+  pub tiles : (t : Tile) (marks : List ℕ) → verdict_of t (length marks) ≡ Ok tt → Walked t marks
+  pub directories : (z : Sizes) (d : Directory) (lengths marks : List ℕ) (c : Counts) → outcome_of z d lengths (length marks) ≡ Ok c
       → DirectoryWalked z d lengths marks c
-  pub texts : (z : Sizes) (d : Directory) (c : Counts) → outcome_of z d own_columns program_sides ≡ outcome.Accepted c → TextTold z d c
+  pub texts : (z : Sizes) (d : Directory) (c : Counts) → outcome_of z d own_columns program_sides ≡ Ok c → TextTold z d c

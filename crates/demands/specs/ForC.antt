@@ -1,36 +1,23 @@
 -- Demand 1 for the operations for C, whose answers are structs of plain numbers (`plainX` of crate `abi`). By these one-to-one tables no
 -- refusal has number 0, and a struct with a number tells the whole refusal and nothing else.
-use Rattle.std.specs.Prelude.{◌≡◌, ◌↔◌, cond, List, ◌++◌, ℕ, eqb, pos}
+use Rattle.std.specs.Prelude.{◌≡◌, ◌↔◌, List, ◌++◌, ℕ, pos, Result, Err}
 use Rattle.refusal.specs.declared.Refusal.{Refusal}
 use Rattle.number.specs.declared.Order.{Order}
-use Rattle.wave.specs.declared.Height.TheVariants as height
-use Rattle.wave.specs.declared.Judgement.TheVariants as judgement
 use Rattle.wave.specs.Height.{height_of}
 use Rattle.wave.specs.Judgement.{judgement_of}
 use Rattle.triplet.specs.declared.Ids.{Ids}
-use Rattle.triplet.specs.declared.Triplet.TheVariants as triplet
-use Rattle.triplet.specs.declared.Written.TheVariants as written
 use Rattle.triplet.specs.Triplet.{triplet_of}
 use Rattle.triplet.specs.Written.{written_of}
-use Rattle.header.specs.declared.Answer.{Answer}
-use Rattle.header.specs.declared.Answer.TheVariants as answer
-use Rattle.header.specs.declared.Step.TheVariants as step
 use Rattle.header.specs.Layouts.{header_of}
 use Rattle.header.specs.Steps.{step_of}
 use Rattle.opening.specs.declared.Opened.{Opened}
 use Rattle.limits.specs.Limits.{most_rows}
 use Rattle.opening.specs.Opening.{opened_of}
-use Rattle.table.specs.declared.Row.TheVariants as row
-use Rattle.table.specs.declared.Value.TheVariants as value
-use Rattle.table.specs.Rows.{rows_refusal}
 use Rattle.rectangle.specs.Rectangles.{refused_with}
 use Rattle.load.specs.declared.Finding.{Finding}
-use Rattle.load.specs.declared.Loaded.TheVariants as loaded
 use Rattle.load.specs.Sources.{Files}
 use Rattle.load.specs.Load.{load_of}
 use Rattle.tile.specs.Columns.{Tile}
-use Rattle.tile.specs.declared.Verdict.TheVariants as verdict
-use Rattle.tile.specs.declared.Walked.TheVariants as walked
 use Rattle.tile.specs.Check.{verdict_of}
 use Rattle.tile.specs.Walk.{walk_of}
 use Rattle.abi.specs.declared.PlainVerdict.{PlainVerdict}
@@ -47,7 +34,7 @@ use Rattle.abi.specs.declared.PlainValue.{PlainValue}
 use Rattle.abi.specs.declared.PlainRectangle.{PlainRectangle}
 use Rattle.abi.specs.declared.PlainLoaded.{PlainLoaded}
 use Rattle.abi.specs.Plain.{plain_verdict, plain_steps, plain_height, plain_judgement, plain_triplet, plain_written}
-use Rattle.abi.specs.PlainTables.{plain_header, plain_table, plain_row, row_in, rows_judged, plain_value, value_in}
+use Rattle.abi.specs.PlainTables.{plain_header, plain_table, plain_row, row_in, judged, rows_judged, plain_value, value_in}
 use Rattle.abi.specs.PlainTables.{nowhere, plain_bounds, plain_rectangle, rectangle_in}
 use Rattle.abi.specs.PlainColumns.{no_column, plain_column}
 use Rattle.abi.specs.PlainLoads.{table_number, plain_loaded}
@@ -128,46 +115,41 @@ told_steps q = record { number = q.number; place = q.place; steps = 0 }
 
 -- ---- the operations
 
--- the answer of a table whose every row is judged: the opening's, and of an opened table that of its lowest row that is refused
-abbrev pub with_rows : Answer → Refusal → Answer
-with_rows answer.Accepted q = cond (eqb q.number 0) answer.Accepted (answer.Refused q)
-with_rows (answer.Refused p) q = answer.Refused p
-
-abbrev pub opened : List ℕ → List ℕ → Opened
+abbrev pub opened : List ℕ → List ℕ → Result Opened Refusal
 opened file index = opened_of file index most_rows
 
 -- Each struct is the one that the operation's contract says. (`vumbarete_find_column` and
 -- `vumbarete_first_place` answer with a number and refuse nothing.)
 pub record ForC : Type 0 where
   pub height : (text : List ℕ)
-      → Tells height.Refused told_height (λ (s : PlainHeight). s.number) of_wave (height_of text) (plain_height (height_of text))
+      → Tells Err told_height (λ (s : PlainHeight). s.number) of_wave (height_of text) (plain_height (height_of text))
   pub passes : (measured limit : List ℕ)
-      → Tells judgement.Refused told_judgement (λ (s : PlainJudgement). s.number) of_wave (judgement_of measured limit)
+      → Tells Err told_judgement (λ (s : PlainJudgement). s.number) of_wave (judgement_of measured limit)
       (plain_judgement (judgement_of measured limit))
   pub triplet : (o : Order) (bytes : List ℕ)
-      → Tells triplet.Refused told_triplet (λ (s : PlainTriplet). s.number) of_triplet (triplet_of o bytes) (plain_triplet (triplet_of o bytes))
+      → Tells Err told_triplet (λ (s : PlainTriplet). s.number) of_triplet (triplet_of o bytes) (plain_triplet (triplet_of o bytes))
   pub write_triplet : (len at : ℕ) (t : Ids)
-      → Tells written.Refused told_written (λ (s : PlainWritten). s.number) of_writing (written_of len at t) (plain_written (written_of len at t))
+      → Tells Err told_written (λ (s : PlainWritten). s.number) of_writing (written_of len at t) (plain_written (written_of len at t))
   pub header : (file : List ℕ)
-      → Tells answer.Refused told_header (λ (s : PlainHeader). s.number) of_header (header_of file).answer (plain_header (header_of file))
+      → Tells Err told_header (λ (s : PlainHeader). s.number) of_header (header_of file) (plain_header (header_of file))
   pub column_step : (file : List ℕ) (place : ℕ)
-      → Tells step.Refused told_column (λ (s : PlainColumn). s.number) of_step (step_of file place) (plain_column (step_of file place))
+      → Tells Err told_column (λ (s : PlainColumn). s.number) of_step (step_of file place) (plain_column (step_of file place))
   pub open_table : (file index : List ℕ)
-      → Tells answer.Refused told_table (λ (s : PlainTable). s.number) of_opening (opened file index).answer (plain_table (opened file index))
+      → Tells Err told_table (λ (s : PlainTable). s.number) of_opening (opened file index) (plain_table (opened file index))
   pub judge_rows : (file index : List ℕ)
-      → Tells answer.Refused told_table (λ (s : PlainTable). s.number) (of_row ++ of_opening)
-      (with_rows (opened file index).answer (rows_refusal file index (opened file index).table)) (rows_judged file index (opened file index))
+      → Tells Err told_table (λ (s : PlainTable). s.number) (of_row ++ of_opening) (judged file index (opened file index))
+      (rows_judged file index (opened file index))
   pub row : (file index : List ℕ) (i : ℕ)
-      → Tells row.Refused told_row (λ (s : PlainRow). s.number) (of_value ++ of_opening) (row_in file index i) (plain_row (row_in file index i))
+      → Tells Err told_row (λ (s : PlainRow). s.number) (of_value ++ of_opening) (row_in file index i) (plain_row (row_in file index i))
   pub value : (file index : List ℕ) (i k : ℕ)
-      → Tells value.Refused told_value (λ (s : PlainValue). s.number) (of_value ++ of_opening) (value_in file index i k)
+      → Tells Err told_value (λ (s : PlainValue). s.number) (of_value ++ of_opening) (value_in file index i k)
       (plain_value (value_in file index i k))
   pub rectangle : (file index : List ℕ) (i k : ℕ)
       → Tells refused_with told_rectangle (λ (s : PlainRectangle). s.number) (of_rectangle ++ of_opening) (rectangle_in file index i k)
       (plain_rectangle (rectangle_in file index i k))
   pub load : (f : Files) (most : ℕ) (lengths : List ℕ)
-      → Tells loaded.Refused told_load (λ (s : PlainLoaded). s.number) of_load (load_of f most lengths) (plain_loaded (load_of f most lengths))
+      → Tells Err told_load (λ (s : PlainLoaded). s.number) of_load (load_of f most lengths) (plain_loaded (load_of f most lengths))
   pub check : (t : Tile) (space : ℕ)
-      → Tells verdict.Refused told_verdict (λ (s : PlainVerdict). s.number) of_check (verdict_of t space) (plain_verdict (verdict_of t space))
+      → Tells Err told_verdict (λ (s : PlainVerdict). s.number) of_check (verdict_of t space) (plain_verdict (verdict_of t space))
   pub walk : (t : Tile) (r space : ℕ)
-      → Tells walked.Refused told_steps (λ (s : PlainSteps). s.number) of_walk (walk_of t r space) (plain_steps (walk_of t r space))
+      → Tells Err told_steps (λ (s : PlainSteps). s.number) of_walk (walk_of t r space) (plain_steps (walk_of t r space))

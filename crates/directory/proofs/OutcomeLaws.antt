@@ -1,44 +1,44 @@
 -- A directory's outcome, stage by stage: sizes, load, and the tile that a load leaves at the front of the ten columns.
+use Rattle.tile.specs.Check.{Verdict}
 use mathlib.Core.Path.{◌≡◌, refl, sym, ap, ◌∙◌}
-use mathlib.Core.Bool.{Bool, true, false, cond, true≢false}
+use mathlib.Core.Bool.{Bool, false, cond}
 use mathlib.Core.List.{List, []}
 use Prim.Native.Nat.{ℕ}
-use lib.Dec.{eqb}
 use native.Mathlib.Omega.{arith}
 use borrow.Author.Tests.{le-ltb}
 use lib.ListN.{length, take, drop, length-append}
 use lib.Seq.{take_at}
 use Rattle.laws.specs.Buffer.{listed}
-use Rattle.laws.proofs.LowestLaws.{bool_cases}
 use Rattle.laws.proofs.BufferLaws.{length-listed}
 use Rattle.laws.proofs.TestLaws.{clash}
 use Rattle.refusal.specs.Order.{refusal}
 use Rattle.side.specs.Edges.{edges}
 use Rattle.tile.specs.Columns.{Tile, tile}
-use Rattle.tile.specs.declared.Verdict.{Verdict}
 use Rattle.tile.specs.Check.{verdict_of, marks_after}
 use Rattle.load.specs.declared.TableName.{TableName}
 use Rattle.load.specs.declared.TableName.TheVariants.{Edg, Fac, Rng, Cnd}
 use Rattle.load.specs.declared.Counts.{Counts}
-use Rattle.load.specs.declared.Loaded.{Loaded}
-use Rattle.load.specs.declared.Loaded.TheVariants as loaded
+use Rattle.load.specs.Load.{Loaded}
+use Rattle.load.proofs.TopLaws.{gives}
 use Rattle.load.specs.Sources.{Files, files, table_in, tables_of}
 use Rattle.load.specs.Columns.{Columns, columns, lengths}
-use Rattle.load.specs.Load.{cells_of, counts, load_finding, load_of, column_left, columns_left}
+use Rattle.load.specs.Load.{cells_of, counts, load_of, column_left, columns_left}
 use Rattle.load.specs.Words.{count_of}
-use Rattle.directory.specs.declared.AtFault.{AtFault}
-use Rattle.directory.specs.declared.AtFault.TheVariants.{Is, Nothing}
+use Rattle.std.proofs.Common.{Some, None, Ok, Err}
+use Rattle.directory.specs.Files.{AtFault}
 use Rattle.report.specs.declared.FileName.{FileName}
 use Rattle.directory.specs.declared.Sizes.{Sizes}
 use Rattle.limits.specs.Limits.{program_rows}
 use Rattle.directory.specs.Files.{too_large}
-use Rattle.directory.specs.Concerned.{file_of_finding}
-use Rattle.directory.specs.declared.Outcome.{Outcome}
-use Rattle.directory.specs.declared.Outcome.TheVariants.{Accepted, Refused}
+use Rattle.directory.specs.Outcome.{Outcome}
 use Rattle.directory.specs.Columns.{held, short, short_of}
 use Rattle.directory.specs.Files.{Directory, cnx_read, files_read, sizes_taken}
 use Rattle.directory.specs.Outcome.{named, column, tile_said, loaded_as, unless_at_fault, loaded_of, columns_after, checked_as}
 use Rattle.directory.specs.Outcome.{checked_from, checked_of, marks_checked, outcome_of}
+
+pub not_some : (x : AtFault) → ((n : FileName) → x ≡ Some n → ⊥) → x ≡ None
+not_some (Some n) h = absurd (h n refl)
+not_some None h = refl
 
 -- the index of cnd as it is lent
 pub files_read_lem : (d : Directory) (x : List ℕ) (k : Bool) → k ≡ cnx_read d → x ≡ cond k d.cnx []
@@ -51,8 +51,8 @@ files_read_lem d x k p q = ap (λ (i : List ℕ). files d.edg d.edx d.fac [] d.r
 
 -- what loading leaves in the columns is what is left with the file named
 left_as : (k : Bool) (r : Loaded) (f : Files) (l : Columns) → columns_left r f program_rows l ≡ columns_after (loaded_as k r) f l
-left_as k (loaded.Tile c) f l = refl
-left_as k (loaded.Refused q) f l = refl
+left_as k (Ok c) f l = refl
+left_as k (Err q) f l = refl
 
 module _ (z : Sizes) (d : Directory) (y : Sizes) (py : y ≡ sizes_taken z d) (k : Bool) (pk : k ≡ cnx_read d) (t : AtFault)
     (pt : t ≡ too_large y k) where
@@ -60,13 +60,13 @@ module _ (z : Sizes) (d : Directory) (y : Sizes) (py : y ≡ sizes_taken z d) (k
   sized = sym (pt ∙ ap (λ (x : Sizes). too_large x k) py ∙ ap (too_large (sizes_taken z d)) pk)
 
   -- a file too large: the columns are as they were
-  pub size_refused : (n : FileName) → t ≡ Is n → (l : Columns) (o : Outcome) → o ≡ Refused (named n (refusal 15 0))
+  pub size_refused : (n : FileName) → t ≡ Some n → (l : Columns) (o : Outcome) → o ≡ Err (named n (refusal 15 0))
       → (o ≡ loaded_of z d (lengths l)) × (l ≡ columns_after o (files_read d) l)
   unfolding loaded_of
   size_refused n e l o a = (rw (sized ∙ e) a, ap (λ (x : Outcome). columns_after x (files_read d) l) (sym a))
 
   -- no file too large: what loading says, and leaves in the columns
-  pub load-answered : t ≡ Nothing → (f : Files) → f ≡ files_read d → (l m : Columns) (r : Loaded) → r ≡ load_of f program_rows (lengths l)
+  pub load-answered : t ≡ None → (f : Files) → f ≡ files_read d → (l m : Columns) (r : Loaded) → r ≡ load_of f program_rows (lengths l)
       → m ≡ columns_left r f program_rows l → (o : Outcome) → o ≡ loaded_as k r
       → (o ≡ loaded_of z d (lengths l)) × (m ≡ columns_after o (files_read d) l)
   unfolding loaded_of
@@ -91,35 +91,20 @@ module _ (z : Sizes) (d : Directory) (lengths : List ℕ) (c : Counts) where
 
   -- what a load that is accepted says of its stages
   accepted_by : (x : AtFault) → too_large (sizes_taken z d) (cnx_read d) ≡ x → (l : Loaded) → load_of f program_rows lengths ≡ l
-      → unless_at_fault x (loaded_as (cnx_read d) l) ≡ Accepted c
-      → (too_large (sizes_taken z d) (cnx_read d) ≡ Nothing) × (load_of f program_rows lengths ≡ loaded.Tile c)
-  accepted_by (Is n) s l g e = clash (cc)
-  accepted_by Nothing s (loaded.Tile k) g e = let q : k ≡ c = cc in (s, g ∙ ap loaded.Tile q)
-  accepted_by Nothing s (loaded.Refused q) g e = clash (cc)
+      → unless_at_fault x (loaded_as (cnx_read d) l) ≡ Ok c
+      → (too_large (sizes_taken z d) (cnx_read d) ≡ None) × (load_of f program_rows lengths ≡ Ok c)
+  accepted_by (Some n) s l g e = clash (cc)
+  accepted_by None s (Ok k) g e = let q : k ≡ c = cc in (s, g ∙ ap Ok q)
+  accepted_by None s (Err q) g e = clash (cc)
 
-  module _ (accepted : loaded_of z d lengths ≡ Accepted c) where
-    pub stages : (too_large (sizes_taken z d) (cnx_read d) ≡ Nothing) × (load_of f program_rows lengths ≡ loaded.Tile c)
+  module _ (accepted : loaded_of z d lengths ≡ Ok c) where
+    pub stages : (too_large (sizes_taken z d) (cnx_read d) ≡ None) × (load_of f program_rows lengths ≡ Ok c)
     unfolding loaded_of
     stages = accepted_by (too_large (sizes_taken z d) (cnx_read d)) refl (load_of f program_rows lengths) refl accepted
 
-    abbrev is_tile : Loaded → Bool
-    is_tile (loaded.Tile d) = true
-    is_tile (loaded.Refused q) = false
-
-    abbrev counts_of : Loaded → Counts
-    counts_of (loaded.Tile d) = d
-    counts_of (loaded.Refused q) = c
-
-    fine_load : eqb (load_finding f program_rows lengths).refusal.number 0 ≡ true
-    unfolding load_of
-    fine_load =
-        bool_cases (eqb (load_finding f program_rows lengths).refusal.number 0)
-        (λ b. b)
-        (λ b. absurd (true≢false (ap is_tile (sym (rw b at stages.1)))))
-
     counted : c ≡ counts (tables_of f program_rows)
     unfolding load_of
-    counted = sym (ap counts_of (rw fine_load at stages.1))
+    counted = sym (gives _ _ _ stages.1)
 
     count_rows : (n : TableName) → count_of c n ≡ (table_in (tables_of f program_rows) n).rows
     count_rows Edg = ap (λ (x : Counts). x.edges) counted
@@ -128,27 +113,27 @@ module _ (z : Sizes) (d : Directory) (lengths : List ℕ) (c : Counts) where
     count_rows Cnd = ap (λ (x : Counts). x.nodes) counted
 
     -- the front of a column as the load leaves it
-    front_said : (n : TableName) (i : ℕ) (l : List ℕ) → take (count_of c n) (column_left (loaded.Tile c) f program_rows n i l) ≡ column f n i
+    front_said : (n : TableName) (i : ℕ) (l : List ℕ) → take (count_of c n) (column_left (Ok c) f program_rows n i l) ≡ column f n i
     front_said n i l =
         let rows = (table_in (tables_of f program_rows) n).rows in
         take_at (listed (cells_of f program_rows n i) rows) (drop rows l) (count_of c n)
         (length-listed (cells_of f program_rows n i) rows ∙ sym (count_rows n))
 
     -- THE TILE AT THE FRONT of the ten columns is the one that the files say
-    pub held_said : (l : Columns) → held c (columns_after (Accepted c) f l) ≡ tile_said f
+    pub held_said : (l : Columns) → held c (columns_after (Ok c) f l) ≡ tile_said f
     held_said l =
         tile_is f _ _ _ _ _ _ _ _ _ _ (front_said Edg 1 _) (front_said Edg 2 _) (front_said Edg 3 _)
         (front_said Edg 4 _) (front_said Edg 5 _) (front_said Edg 6 _)
         (front_said Fac 7 _) (front_said Rng 8 _) (front_said Rng 9 _) (front_said Cnd 10 _)
 
     -- no column is shorter than the counts say
-    long_enough : (n : TableName) (i : ℕ) (l : List ℕ) → short (count_of c n) (column_left (loaded.Tile c) f program_rows n i l) ≡ false
+    long_enough : (n : TableName) (i : ℕ) (l : List ℕ) → short (count_of c n) (column_left (Ok c) f program_rows n i l) ≡ false
     long_enough n i l =
         let rows = (table_in (tables_of f program_rows) n).rows in
         let g = cells_of f program_rows n i in
         le-ltb _ (count_of c n) (simp (length-append, length-listed g rows) (omega (arith, count_rows n)))
 
-    pub counts-held : (l : Columns) → short_of c (columns_after (Accepted c) f l) ≡ Nothing
+    pub counts-held : (l : Columns) → short_of c (columns_after (Ok c) f l) ≡ None
     unfolding short_of
     counts-held l =
         rw (
@@ -165,7 +150,7 @@ module _ (z : Sizes) (d : Directory) (lengths : List ℕ) (c : Counts) where
         ) refl
 
     -- THE ONE CALL AFTER THE OTHER gives the directory's outcome
-    pub loaded_checked : (l : Columns) (space : ℕ) → checked_of c (columns_after (Accepted c) f l) space ≡ outcome_of z d lengths space
+    pub loaded_checked : (l : Columns) (space : ℕ) → checked_of c (columns_after (Ok c) f l) space ≡ outcome_of z d lengths space
     unfolding checked_of outcome_of
     loaded_checked l space = rw (counts-held l, accepted) (ap (λ (t : Tile). checked_as c t space) (held_said l))
 
@@ -181,13 +166,13 @@ fronts_held n a' b' c' d' e' f' g' h' i' j' pa pb pc pd pe pf pg ph pi pj = rw (
 
 module _ (c : Counts) (l : Columns) (x : AtFault) (px : x ≡ short_of c l) where
   -- counts that the columns cannot have
-  pub counts_refused : (n : FileName) → x ≡ Is n → (o : Outcome) → o ≡ Refused (named n (refusal 15 0)) → (d : List ℕ)
+  pub counts_refused : (n : FileName) → x ≡ Some n → (o : Outcome) → o ≡ Err (named n (refusal 15 0)) → (d : List ℕ)
       → (o ≡ checked_of c l (length d)) × (d ≡ marks_checked c l d)
   unfolding checked_of marks_checked
   counts_refused n e o a d = (rw (sym px ∙ e) a, rw (sym px ∙ e) refl)
 
   -- counts that they can have: the check's own answer, of a tile that is the one held
-  pub counts_fit : x ≡ Nothing → (t : Tile) → t ≡ held c l → (d d' : List ℕ) (v : Verdict) → v ≡ verdict_of t (length d) → d' ≡ marks_after t d
+  pub counts_fit : x ≡ None → (t : Tile) → t ≡ held c l → (d d' : List ℕ) (v : Verdict) → v ≡ verdict_of t (length d) → d' ≡ marks_after t d
       → (o : Outcome) → o ≡ checked_from c t v → (o ≡ checked_of c l (length d)) × (d' ≡ marks_checked c l d)
   unfolding checked_of checked_as marks_checked
   counts_fit e t pt d d' v pv pd o po = (

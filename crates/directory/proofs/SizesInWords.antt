@@ -1,8 +1,8 @@
 -- "Larger is 15: sizes first, in that order": the file that is found too large is the first that is, and none is found exactly when none is.
 use mathlib.Core.Path.{◌≡◌, refl, sym, ap, subst, ◌∙◌}
 use mathlib.Core.Logic.{◌↔◌, by_cases}
-use mathlib.Core.Bool.{Bool, true, false, cond, true≢false}
-use Prim.Native.Nat.{ℕ, zero, suc, max, ◌≤◌, ◌<◌}
+use mathlib.Core.Bool.{Bool, false, cond, true≢false}
+use Prim.Native.Nat.{ℕ, zero, suc, max, ◌<◌}
 use native.Mathlib.Decide.{dec_lt}
 use native.Mathlib.Nat.{le-max_left, le-max_right, max-le}
 use native.Mathlib.Omega.{arith}
@@ -10,8 +10,8 @@ use lib.Dec.{ltb}
 use lib.ListN.{length}
 use Rattle.laws.proofs.LowestLaws.{bool_cases}
 use Rattle.laws.proofs.TestLaws.{not_above}
-use Rattle.directory.specs.declared.AtFault.{AtFault}
-use Rattle.directory.specs.declared.AtFault.TheVariants.{Is, Nothing}
+use Rattle.std.proofs.Common.{Some, None}
+use Rattle.directory.specs.Files.{AtFault}
 use Rattle.report.specs.declared.FileName.{FileName}
 use Rattle.report.specs.declared.FileName.TheVariants.{Edg, Edx, Fac, Rng, Cnd, Cnx}
 use Rattle.directory.specs.declared.Sizes.{Sizes}
@@ -72,11 +72,11 @@ module _ (z : Sizes) (d : Directory) where
 
   -- what each answer says
   abbrev Judged : AtFault → Type 0
-  Judged (Is n) = FirstTooLarge z d n
-  Judged Nothing = (n : FileName) → SizeRight z d n
+  Judged (Some n) = FirstTooLarge z d n
+  Judged None = (n : FileName) → SizeRight z d n
 
   tested : (n : FileName) (rest : AtFault) → IsRead d n → Passed (rank n) → (Passed (suc (rank n)) → Judged rest)
-      → Judged (cond (larger n) (Is n) rest)
+      → Judged (cond (larger n) (Some n) rest)
   tested n rest r p go =
       bool_cases (larger n)
       (λ b. rw b (record { read = r; too_large = λ f. true≢false (sym b ∙ (fits n).1 f); earlier = p }))
@@ -91,7 +91,7 @@ module _ (z : Sizes) (d : Directory) where
       (λ p. tested Rng _ tt p
       (λ p. tested Cnd _ tt p
       (λ p. bool_cases (cnx_read d)
-      (λ k. rw k (tested Cnx Nothing k p (λ p n. p n (six n))))
+      (λ k. rw k (tested Cnx None k p (λ p n. p n (six n))))
       (λ k. rw k (λ n. passed_more Cnx p (λ r. absurd (true≢false (sym r ∙ k))) n (six n))))))))
 
   -- ---- only one answer fits the words
@@ -102,18 +102,18 @@ module _ (z : Sizes) (d : Directory) where
       by_cases (dec_lt (rank n) (rank m)) (λ k. absurd (b.too_large (a.earlier n k b.read)))
       (λ k. same_rank m n (omega arith)))
 
-  fault_found : (n : FileName) → FirstTooLarge z d n → (x : AtFault) → Judged x → x ≡ Is n
-  fault_found n a (Is m) b = ap Is (first_only m n b a)
-  fault_found n a Nothing b = absurd (a.too_large (b n a.read))
+  fault_found : (n : FileName) → FirstTooLarge z d n → (x : AtFault) → Judged x → x ≡ Some n
+  fault_found n a (Some m) b = ap Some (first_only m n b a)
+  fault_found n a None b = absurd (a.too_large (b n a.read))
 
-  none_found : ((n : FileName) → SizeRight z d n) → (x : AtFault) → Judged x → x ≡ Nothing
-  none_found a (Is m) b = absurd (b.too_large (a m b.read))
-  none_found a Nothing b = refl
+  none_found : ((n : FileName) → SizeRight z d n) → (x : AtFault) → Judged x → x ≡ None
+  none_found a (Some m) b = absurd (b.too_large (a m b.read))
+  none_found a None b = refl
 
   -- NO FILE IS FOUND TOO LARGE EXACTLY WHEN each that is read has at most 65,536 bytes
-  pub sizes_exactly : (too_large (sizes_taken z d) (cnx_read d) ≡ Nothing) ↔ ((n : FileName) → SizeRight z d n)
+  pub sizes_exactly : (too_large (sizes_taken z d) (cnx_read d) ≡ None) ↔ ((n : FileName) → SizeRight z d n)
   sizes_exactly = (λ e. subst Judged e judged, λ a. none_found a _ judged)
 
   -- A FILE IS FOUND TOO LARGE EXACTLY WHEN it is the first that is
-  pub size_exactly : (n : FileName) → (too_large (sizes_taken z d) (cnx_read d) ≡ Is n) ↔ FirstTooLarge z d n
+  pub size_exactly : (n : FileName) → (too_large (sizes_taken z d) (cnx_read d) ≡ Some n) ↔ FirstTooLarge z d n
   size_exactly n = (λ e. subst Judged e judged, λ a. fault_found n a _ judged)

@@ -1,4 +1,6 @@
 -- The steps of ring rows, added up.
+use Rattle.std.specs.Prelude.{Err, Ok}
+use Rattle.tile.specs.Walk.{Walked}
 use mathlib.Core.Path.{◌≡◌, refl, ◌∙◌}
 use mathlib.Core.Bool.{Bool, true, false, cond}
 use Prim.Native.Nat.{ℕ, suc, ◌+◌, ◌≤◌}
@@ -10,8 +12,6 @@ use Rattle.laws.proofs.LowestLaws.{bool_cases}
 use Rattle.refusal.specs.Order.{refusal}
 use Rattle.side.specs.Edges as side
 use Rattle.tile.specs.Walk.{Moves, came_back, still_open, stuck}
-use Rattle.tile.specs.declared.Walked.{Walked}
-use Rattle.tile.specs.declared.Walked.TheVariants as walked
 use Rattle.tile.specs.Columns.{Tile, R, start_side}
 use Rattle.tile.specs.Check.{sizes_wrong, start_wrong}
 use Rattle.tile.specs.Walk as walk
@@ -31,10 +31,10 @@ moves_within r space (stuck q) = omega arith
 pub steps_within : (t : Tile) (r space : ℕ) → steps_of (walk.walk_of t r space) ≤ space
 unfolding walk.walk_of
 steps_within t r space =
-    either space (sizes_wrong t) (walked.Refused (refusal 15 0)) _ (omega arith)
-    (either space (side.outside (R t) r) (walked.Refused (refusal 13 r)) _ (omega arith)
-    (either space (start_wrong t r) (walked.Refused (refusal 29 r)) _ (omega arith)
-    (either space (eqb (start_side t r) 0) (walked.Steps 0) _ (omega arith) (moves_within r space (walk.moves t.edg (start_side t r))))))
+    either space (sizes_wrong t) (Err (refusal 15 0)) _ (omega arith)
+    (either space (side.outside (R t) r) (Err (refusal 13 r)) _ (omega arith)
+    (either space (start_wrong t r) (Err (refusal 29 r)) _ (omega arith)
+    (either space (eqb (start_side t r) 0) (Ok 0) _ (omega arith) (moves_within r space (walk.moves t.edg (start_side t r))))))
 
 -- ---- a turn of a loop over the ring rows
 

@@ -1,4 +1,5 @@
 -- A DIRECTORY'S VERDICT IS THE CHECK'S VERDICT ON THE TILE THAT ITS FILES SAY, and the counts are that tile's.
+use Rattle.tile.specs.Check.{Verdict}
 use mathlib.Core.Path.{◌≡◌, refl, sym, ap, ◌∙◌}
 use mathlib.Core.Logic.{◌↔◌, inl, inr, ⊎_elim}
 use mathlib.Core.List.{List}
@@ -9,8 +10,6 @@ use Rattle.laws.proofs.TestLaws.{clash}
 use Rattle.refusal.specs.declared.Refusal.{Refusal}
 use Rattle.refusal.specs.Order.{refusal}
 use Rattle.tile.specs.Columns.{Tile, E, F, R, N}
-use Rattle.tile.specs.declared.Verdict.{Verdict}
-use Rattle.tile.specs.declared.Verdict.TheVariants as verdict
 use Rattle.tile.specs.Check.{verdict_of}
 use Rattle.facts.proofs.AcceptedExactly as check
 use Rattle.facts.proofs.RefusedExactly.{refused, words_refused}
@@ -18,21 +17,19 @@ use Rattle.opening.specs.declared.Table.{Table}
 use Rattle.load.specs.declared.TableName.{TableName}
 use Rattle.load.specs.declared.TableName.TheVariants.{Edg, Fac, Rng, Cnd}
 use Rattle.load.specs.declared.Counts.{Counts}
-use Rattle.load.specs.declared.Loaded.{Loaded}
-use Rattle.load.specs.declared.Loaded.TheVariants as loaded
+use Rattle.load.specs.Load.{Loaded}
 use Rattle.load.specs.Sources.{Files, table_in, tables_of}
 use Rattle.load.specs.Load.{cells_of, load_of}
 use Rattle.load.specs.Words.{Loads, count_of}
 use Rattle.load.proofs.LoadedExactly.{loaded_exactly, refused-exactly, opened_as}
 use Rattle.report.specs.declared.FileName.{FileName}
 use Rattle.directory.specs.declared.Sizes.{Sizes}
-use Rattle.directory.specs.declared.AtFault.{AtFault}
-use Rattle.directory.specs.declared.AtFault.TheVariants.{Is, Nothing}
+use Rattle.std.proofs.Common.{Some, None, Ok, Err}
+use Rattle.directory.specs.Files.{AtFault}
 use Rattle.limits.specs.Limits.{program_rows}
 use Rattle.directory.specs.Files.{too_large}
 use Rattle.directory.specs.Concerned.{file_of_finding, file_of_verdict}
 use Rattle.directory.specs.declared.Named.{Named}
-use Rattle.directory.specs.declared.Outcome.TheVariants.{Accepted, Refused}
 use Rattle.directory.specs.Files.{Directory, cnx_read, files_read, sizes_taken}
 use Rattle.directory.specs.Outcome.{named, column, tile_said, checked_from, checked_as, loaded_as, unless_at_fault, loaded_of, then_checked, outcome_of}
 use Rattle.directory.specs.Words.{AcceptedWith, BySize, ByLoad, ByCheck, RefusedWith}
@@ -68,15 +65,15 @@ module _ (f : Files) (lengths : List ℕ) (c : Counts) (h : Loads f program_rows
 -- ---- what each stage hands on
 
 module _ (t : Tile) (c d : Counts) where
-  checked_accepted : (v : Verdict) → checked_from c t v ≡ Accepted d → (v ≡ verdict.Accepted) × (c ≡ d)
-  checked_accepted verdict.Accepted e = (refl, cc)
-  checked_accepted (verdict.Refused q) e = clash (cc)
+  checked_accepted : (v : Verdict) → checked_from c t v ≡ Ok d → (v ≡ (Ok tt)) × (c ≡ d)
+  checked_accepted (Ok tt) e = (refl, cc)
+  checked_accepted (Err q) e = clash (cc)
 
 module _ (t : Tile) (c : Counts) (w : Named) where
-  checked_refused : (v : Verdict) → checked_from c t v ≡ Refused w
-      → (q : Refusal) × (v ≡ verdict.Refused q) × (named (file_of_verdict t.fac_id (F t) q) q ≡ w)
-  checked_refused verdict.Accepted e = clash (cc)
-  checked_refused (verdict.Refused q) e = (q, refl, cc)
+  checked_refused : (v : Verdict) → checked_from c t v ≡ Err w
+      → (q : Refusal) × (v ≡ Err q) × (named (file_of_verdict t.fac_id (F t) q) q ≡ w)
+  checked_refused (Ok tt) e = clash (cc)
+  checked_refused (Err q) e = (q, refl, cc)
 
 -- a refusal and its file are what is named
 is_named_lem : (w : Named) (n : FileName) (q : Refusal) → n ≡ w.file → q ≡ w.refusal → named n q ≡ w
@@ -103,54 +100,54 @@ module _ (z : Sizes) (d : Directory) (lengths : List ℕ) (space : ℕ) where
       ap (λ (x : AtFault). then_checked (unless_at_fault x (loaded_as (cnx_read d) load)) t space) e
       ∙ ap (λ (l : Loaded). then_checked (unless_at_fault x (loaded_as (cnx_read d) l)) t space) g
 
-  outcome_checked : size ≡ Nothing → (c : Counts) → load ≡ loaded.Tile c → (v : Verdict) → verdict_of t space ≡ v
+  outcome_checked : size ≡ None → (c : Counts) → load ≡ Ok c → (v : Verdict) → verdict_of t space ≡ v
       → outcome_of z d lengths space ≡ checked_from c t v
   unfolding checked_as
-  outcome_checked e c g v h = outcome_staged Nothing e (loaded.Tile c) g ∙ ap (checked_from c t) h
+  outcome_checked e c g v h = outcome_staged None e (Ok c) g ∙ ap (checked_from c t) h
 
   -- ---- accepted exactly
 
   module _ (c : Counts) where
     accepted_by : (x : AtFault) → size ≡ x → (l : Loaded) → load ≡ l
-        → then_checked (unless_at_fault x (loaded_as (cnx_read d) l)) t space ≡ Accepted c
+        → then_checked (unless_at_fault x (loaded_as (cnx_read d) l)) t space ≡ Ok c
         → AcceptedWith z d lengths space c
     unfolding checked_as
-    accepted_by (Is n) s l g e = clash (cc)
-    accepted_by Nothing s (loaded.Tile k) g e =
+    accepted_by (Some n) s l g e = clash (cc)
+    accepted_by None s (Ok k) g e =
         let w = checked_accepted t k c (verdict_of t space) e in
         record {
           sizes = (sizes_exactly z d).0 s;
-          loads = (loaded_exactly f program_rows lengths c).0 (g ∙ ap loaded.Tile w.1);
+          loads = (loaded_exactly f program_rows lengths c).0 (g ∙ ap Ok w.1);
           facts = check.accepted t space w.0;
         }
-    accepted_by Nothing s (loaded.Refused q) g e = clash (cc)
+    accepted_by None s (Err q) g e = clash (cc)
 
     -- A DIRECTORY IS ACCEPTED EXACTLY WHEN no file is too large, its files load, and the tile that they say has all of the facts
-    pub accepted_exactly : (outcome_of z d lengths space ≡ Accepted c) ↔ AcceptedWith z d lengths space c
+    pub accepted_exactly : (outcome_of z d lengths space ≡ Ok c) ↔ AcceptedWith z d lengths space c
     accepted_exactly = (
       λ e. accepted_by size refl load refl (sym (outcome_staged size refl load refl) ∙ e),
       λ a.
-          outcome_checked ((sizes_exactly z d).1 a.sizes) c ((loaded_exactly f program_rows lengths c).1 a.loads) verdict.Accepted
+          outcome_checked ((sizes_exactly z d).1 a.sizes) c ((loaded_exactly f program_rows lengths c).1 a.loads) (Ok tt)
           (check.facts_accepted t space a.facts),
     )
 
   -- ---- refused exactly
 
   module _ (w : Named) where
-    refused_by : (x : AtFault) → size ≡ x → (l : Loaded) → load ≡ l → then_checked (unless_at_fault x (loaded_as (cnx_read d) l)) t space ≡ Refused w
+    refused_by : (x : AtFault) → size ≡ x → (l : Loaded) → load ≡ l → then_checked (unless_at_fault x (loaded_as (cnx_read d) l)) t space ≡ Err w
         → RefusedWith z d lengths space w
     unfolding checked_as
-    refused_by (Is n) s l g e =
+    refused_by (Some n) s l g e =
         let q : named n (refusal 15 0) ≡ w = cc in
         inl (record {
-          first = (size_exactly z d w.file).0 (s ∙ ap (λ (x : Named). Is x.file) q);
+          first = (size_exactly z d w.file).0 (s ∙ ap (λ (x : Named). Some x.file) q);
           says = sym
               (ap (λ (x : Named). x.refusal) q);
         })
-    refused_by Nothing s (loaded.Tile c) g e =
+    refused_by None s (Ok c) g e =
         let x = checked_refused t c w (verdict_of t space) e in
         let q : x.0 ≡ w.refusal = ap (λ (n : Named). n.refusal) x.2 in
-        let r = refused t space w.refusal.number w.refusal.place (x.1 ∙ ap verdict.Refused q) in
+        let r = refused t space w.refusal.number w.refusal.place (x.1 ∙ ap Err q) in
         inr (inr (record {
           sizes = (sizes_exactly z d).0 s;
           counts = c;
@@ -158,7 +155,7 @@ module _ (z : Sizes) (d : Directory) (lengths : List ℕ) (space : ℕ) where
           refused = r;
           file = sym (ap (λ (n : Named). n.file) x.2) ∙ ap (file_of_verdict t.fac_id (F t)) q ∙ file_of_test_lem t space w.refusal r;
         }))
-    refused_by Nothing s (loaded.Refused q) g e =
+    refused_by None s (Err q) g e =
         let n : named (file_of_finding (cnx_read d) q) q.refusal ≡ w = cc in
         inr (inl (record {
           sizes = (sizes_exactly z d).0 s;
@@ -168,26 +165,26 @@ module _ (z : Sizes) (d : Directory) (lengths : List ℕ) (space : ℕ) where
           file = (speaks_exactly d q w.file).0 (ap (λ (x : Named). x.file) n);
         }))
 
-    of_size : BySize z d lengths space w → outcome_of z d lengths space ≡ Refused w
+    of_size : BySize z d lengths space w → outcome_of z d lengths space ≡ Err w
     of_size a =
-        outcome_staged (Is w.file) ((size_exactly z d w.file).1 a.first) load refl
-        ∙ ap Refused (is_named_lem w w.file (refusal 15 0) refl (sym a.says))
+        outcome_staged (Some w.file) ((size_exactly z d w.file).1 a.first) load refl
+        ∙ ap Err (is_named_lem w w.file (refusal 15 0) refl (sym a.says))
 
-    of_load : ByLoad z d lengths space w → outcome_of z d lengths space ≡ Refused w
+    of_load : ByLoad z d lengths space w → outcome_of z d lengths space ≡ Err w
     of_load a =
         let q = a.finding in
-        outcome_staged Nothing ((sizes_exactly z d).1 a.sizes) (loaded.Refused q) ((refused-exactly f program_rows lengths q).1 a.refused)
-        ∙ ap Refused (is_named_lem w (file_of_finding (cnx_read d) q) q.refusal ((speaks_exactly d q w.file).1 a.file) (sym a.says))
+        outcome_staged None ((sizes_exactly z d).1 a.sizes) (Err q) ((refused-exactly f program_rows lengths q).1 a.refused)
+        ∙ ap Err (is_named_lem w (file_of_finding (cnx_read d) q) q.refusal ((speaks_exactly d q w.file).1 a.file) (sym a.says))
 
-    of_check : ByCheck z d lengths space w → outcome_of z d lengths space ≡ Refused w
+    of_check : ByCheck z d lengths space w → outcome_of z d lengths space ≡ Err w
     of_check a =
         outcome_checked ((sizes_exactly z d).1 a.sizes) a.counts
-        ((loaded_exactly f program_rows lengths a.counts).1 a.loads) (verdict.Refused w.refusal)
+        ((loaded_exactly f program_rows lengths a.counts).1 a.loads) (Err w.refusal)
         (words_refused t space w.refusal.number w.refusal.place a.refused)
-        ∙ ap Refused (is_named_lem w _ w.refusal (file_of_test_lem t space w.refusal a.refused ∙ sym a.file) refl)
+        ∙ ap Err (is_named_lem w _ w.refusal (file_of_test_lem t space w.refusal a.refused ∙ sym a.file) refl)
 
     -- A DIRECTORY IS REFUSED EXACTLY WHEN a file is too large, or else the load refuses it, or else the check does; with their own refusal
-    pub refused_exactly_when : (outcome_of z d lengths space ≡ Refused w) ↔ RefusedWith z d lengths space w
+    pub refused_exactly_when : (outcome_of z d lengths space ≡ Err w) ↔ RefusedWith z d lengths space w
     refused_exactly_when = (
       λ e. refused_by size refl load refl (sym (outcome_staged size refl load refl) ∙ e),
       ⊎_elim of_size (⊎_elim of_load of_check),

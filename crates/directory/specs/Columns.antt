@@ -1,11 +1,10 @@
 -- The tile that stands at the front of ten columns, and counts that the columns cannot have.
-use Rattle.std.specs.Prelude.{Bool, cond, ◌||◌, List, ℕ, ltb, length, take}
+use Rattle.std.specs.Prelude.{Bool, cond, ◌||◌, List, ℕ, ltb, length, take, Some, None}
 use Rattle.side.specs.Edges.{edges}
 use Rattle.tile.specs.Columns.{Tile, tile}
 use Rattle.load.specs.declared.Counts.{Counts}
 use Rattle.load.specs.Columns.{Columns}
-use Rattle.directory.specs.declared.AtFault.{AtFault}
-use Rattle.directory.specs.declared.AtFault.TheVariants.{Is, Nothing}
+use Rattle.directory.specs.Files.{AtFault}
 use Rattle.report.specs.declared.FileName.TheVariants.{Edg, Fac, Rng, Cnd}
 
 -- the tile that stands at their front: as many rows of each as the counts say
@@ -28,7 +27,7 @@ edges_short c l =
 -- counts that the columns cannot have: the first table of which a column is shorter than they say
 unfoldable pub short_of : Counts → Columns → AtFault
 short_of c l =
-    cond (edges_short c l) (Is Edg)
-    (cond (short c.faces l.ring_ptr) (Is Fac)
-    (cond (short c.rings l.fac_id || short c.rings l.start_edge) (Is Rng)
-    (cond (short c.nodes l.first_edge) (Is Cnd) Nothing)))
+    cond (edges_short c l) (Some Edg)
+    (cond (short c.faces l.ring_ptr) (Some Fac)
+    (cond (short c.rings l.fac_id || short c.rings l.start_edge) (Some Rng)
+    (cond (short c.nodes l.first_edge) (Some Cnd) None)))

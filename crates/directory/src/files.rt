@@ -5,64 +5,61 @@ ghost use Rattle.report.specs.declared.FileName.TheVariants.{Edg, Fac, Rng};
 ghost use Rattle.directory.specs.Files.{too_large, has_triplet, shows_triplet};
 ghost use Rattle.directory.specs.Concerned.{of_table, of_index, file_of_finding, ring_row, file_of_verdict};
 
-use crate::{AtFault, Sizes};
+use crate::Sizes;
 use header::Layout;
 use limits::MOST_BYTES;
 use load::{Finding, TableName};
-use refusal::{CYCLE_OWNED, Refusal, WRONG_FIRST_EDGE, WRONG_INDEX, WRONG_RING_ROWS, WRONG_START};
+use refusal::{Kind, Refusal};
 use report::FileName;
 
 // The first file that is too large, in document 01's order; cnx only where it is read.
-pub(crate) fn too_large(sizes: Sizes, cnx_read: bool) -> AtFault
+pub(crate) fn too_large(sizes: Sizes, cnx_read: bool) -> Option<FileName>
     ensures { result ≡ too_large sizes cnx_read }
 {
     if MOST_BYTES < sizes.edg {
-        return AtFault::Is(FileName::Edg);
+        return Some(FileName::Edg);
     }
     if MOST_BYTES < sizes.edx {
-        return AtFault::Is(FileName::Edx);
+        return Some(FileName::Edx);
     }
     if MOST_BYTES < sizes.fac {
-        return AtFault::Is(FileName::Fac);
+        return Some(FileName::Fac);
     }
     if MOST_BYTES < sizes.rng {
-        return AtFault::Is(FileName::Rng);
+        return Some(FileName::Rng);
     }
     if MOST_BYTES < sizes.cnd {
-        return AtFault::Is(FileName::Cnd);
+        return Some(FileName::Cnd);
     }
     if cnx_read {
         if MOST_BYTES < sizes.cnx {
-            return AtFault::Is(FileName::Cnx);
+            return Some(FileName::Cnx);
         }
     }
-    AtFault::Nothing
+    None
 }
 
 // Whether one of the columns is a triplet.
-fn has_triplet(layout: Layout) -> bool
-    ensures { result ≡ has_triplet layout }
+fn has_triplet(layout: &Layout) -> bool
+    ensures { result ≡ has_triplet layout.now }
 {
-    let n = limits::columns_within(layout.columns);
-    let mut k = 0;
-    while k < n {
-        let column = layout.cols[k];
-        let kind = column.kind;
-        if kind.is_triplet() {
+    for k in 0..limits::columns_within(layout.columns) {
+        if layout.cols[k].kind.is_triplet() {
             return true;
         }
-        k += 1;
     }
     false
 }
 
 // "cnx if K occurs": whether the header of cnd is accepted and shows K.
+#[tactic(auto, unfolding(crate::specs::Files::shows_triplet))]
 pub fn shows_triplet(cnd: &[u8]) -> bool
     ensures { result ≡ shows_triplet cnd.now }
 {
-    let read = header::read_header(cnd);
-    let layout = read.layout;
-    has_triplet(layout)
+    match header::read_header(cnd) {
+        Ok(head) => has_triplet(&head.layout),
+        Err(_) => false,
+    }
 }
 
 // The file of the table itself.
@@ -104,7 +101,7 @@ pub(crate) fn file_of_finding(cnx_read: bool, found: Finding) -> FileName
     ensures { result ≡ file_of_finding cnx_read found }
 {
     let table = found.table;
-    if found.refusal.number == WRONG_INDEX {
+    if found.refusal.number == Kind::WrongIndex.number() {
         return of_index(cnx_read, table);
     }
     of_table(table)
@@ -134,10 +131,10 @@ fn by_place(fac_id: &[u32], faces: usize, place: usize) -> FileName
 fn by_number(number: u32) -> FileName
     ensures { result ≡ cond (eqb number 29) Rng (cond (eqb number 30) Rng Edg) }
 {
-    if number == WRONG_START {
+    if number == Kind::WrongStart.number() {
         return FileName::Rng;
     }
-    if number == CYCLE_OWNED {
+    if number == Kind::CycleOwned.number() {
         return FileName::Rng;
     }
     FileName::Edg
@@ -147,10 +144,10 @@ fn by_number(number: u32) -> FileName
 pub(crate) fn file_of_verdict(fac_id: &[u32], faces: usize, refused: Refusal) -> FileName
     ensures { result ≡ file_of_verdict fac_id.now faces refused }
 {
-    if refused.number == WRONG_FIRST_EDGE {
+    if refused.number == Kind::WrongFirstEdge.number() {
         return FileName::Cnd;
     }
-    if refused.number == WRONG_RING_ROWS {
+    if refused.number == Kind::WrongRingRows.number() {
         return by_place(fac_id, faces, refused.place);
     }
     by_number(refused.number)

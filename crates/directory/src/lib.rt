@@ -3,20 +3,22 @@
 
 pub mod files;
 
-ghost use Rattle.std.specs.Prelude.{◌≡◌, cond, ◌||◌, [], max, length, take};
+ghost use Rattle.std.specs.Prelude.{◌≡◌, cond, ◌||◌, [], length, take, Err};
 ghost use Rattle.refusal.specs.Order.{refusal};
 ghost use Rattle.tile.specs.Walk.{walk_of, sides_written};
-ghost use Rattle.load.specs.Columns.{columns, lengths};
-ghost use Rattle.directory.specs.Columns.{held, short, short_of};
-ghost use Rattle.directory.specs.Files.{directory, files_read, sizes_taken};
+ghost use Rattle.load.specs.Columns.{lengths};
+ghost use Rattle.load.specs.Lent.{contents, SameColumns};
+ghost use Rattle.directory.specs.Columns.{held, short, edges_short, short_of};
+ghost use Rattle.directory.specs.Files.{files_read, sizes_taken};
 ghost use Rattle.directory.specs.Outcome.{named, loaded_as, loaded_of, columns_after, checked_by, checked_of, marks_checked};
-ghost use Rattle.directory.specs.declared.Outcome.TheVariants.{Refused};
 
 use limits::PROGRAM_ROWS;
-use load::{Counts, Loaded};
-use refusal::{OVER_LIMIT, Refusal};
+use load::{ColumnsMut, Counts, Finding, Sources};
+use refusal::{Kind, Refusal};
 use report::FileName;
-use tile::{Verdict, Walked};
+use side::Edges;
+use std::marker::Model;
+use tile::Tile;
 
 // How many bytes each file is said to have; any number above 65,536 stands for a larger file.
 #[derive(Clone, Copy)]
@@ -29,11 +31,47 @@ pub struct Sizes {
     pub cnx: usize,
 }
 
-// The first file that is at fault, if any.
-#[derive(Clone, Copy)]
-pub enum AtFault {
-    Is(FileName),
-    Nothing,
+// What is lent of the files of a directory: all of a file, or the first bytes of one too large.
+#[derive(Drop)]
+pub struct Directory<'a> {
+    pub edg: &'a [u8],
+    pub edx: &'a [u8],
+    pub fac: &'a [u8],
+    pub rng: &'a [u8],
+    pub cnd: &'a [u8],
+    pub cnx: &'a [u8],
+}
+
+impl<'a> Model for Directory<'a> {
+    ghost use Rattle.directory.specs.Files.{Directory, directory};
+
+    ghost Value = { Directory };
+
+    ghost view = { λ d. directory d.edg.now d.edx.now d.fac.now d.rng.now d.cnd.now d.cnx.now };
+}
+
+// The ten columns of a tile, lent to be read.
+#[derive(Drop)]
+pub struct Columns<'a> {
+    pub start_node: &'a [u32],
+    pub end_node: &'a [u32],
+    pub right_face: &'a [u32],
+    pub left_face: &'a [u32],
+    pub right_edge: &'a [u32],
+    pub left_edge: &'a [u32],
+    pub ring_ptr: &'a [u32],
+    pub fac_id: &'a [u32],
+    pub start_edge: &'a [u32],
+    pub first_edge: &'a [u32],
+}
+
+impl<'a> Model for Columns<'a> {
+    ghost use Rattle.load.specs.Columns.{Columns, columns};
+
+    ghost Value = { Columns };
+
+    ghost view = { λ c. columns c.start_node.now c.end_node.now c.right_face.now c.left_face.now c.right_edge.now
+        c.left_edge.now c.ring_ptr.now c.fac_id.now c.start_edge.now c.first_edge.now };
 }
 
 // A refusal, and the file that it speaks of.
@@ -43,26 +81,14 @@ pub struct Named {
     pub refusal: Refusal,
 }
 
-#[derive(Clone, Copy)]
-pub enum Outcome {
-    Accepted(Counts),
-    Refused(Named),
-}
-
-fn name(file: FileName, refused: Refusal) -> Named
-    ensures { result ≡ named file refused }
+// 15 with the file that is over a limit.
+fn over_limit(file: FileName) -> Named
+    ensures { result ≡ named file (refusal 15 0) }
 {
     Named {
-        file: file,
-        refusal: refused,
+        file,
+        refusal: Kind::OverLimit.at(0),
     }
-}
-
-// 15 with the file that is over a limit.
-fn over_limit(file: FileName) -> Outcome
-    ensures { result ≡ Refused (named file (refusal 15 0)) }
-{
-    Outcome::Refused(name(file, refusal::refuse(OVER_LIMIT, 0)))
 }
 
 // ---- loaded
@@ -77,123 +103,56 @@ fn lent_index<'a>(cnx: &'a [u8], cnx_read: bool) -> &'a [u8]
     &cnx[0..0]
 }
 
-// The greater of two.
-fn larger(a: usize, b: usize) -> usize
-    ensures { result ≡ max a b }
-{
-    if a < b {
-        return b;
-    }
-    a
-}
-
 // The size of each file: what it is said to have, and never less than what is lent of it.
-fn take_sizes(
-    sizes: Sizes,
-    edg: &[u8],
-    edx: &[u8],
-    fac: &[u8],
-    rng: &[u8],
-    cnd: &[u8],
-    cnx: &[u8],
-) -> Sizes
-    ensures { result ≡ sizes_taken sizes
-        (directory edg.now edx.now fac.now rng.now
-        cnd.now cnx.now) }
+fn take_sizes(sizes: Sizes, lent: &Directory) -> Sizes
+    ensures { result ≡ sizes_taken sizes lent.now }
 {
     Sizes {
-        edg: larger(sizes.edg, edg.len()),
-        edx: larger(sizes.edx, edx.len()),
-        fac: larger(sizes.fac, fac.len()),
-        rng: larger(sizes.rng, rng.len()),
-        cnd: larger(sizes.cnd, cnd.len()),
-        cnx: larger(sizes.cnx, cnx.len()),
+        edg: sizes.edg.max(lent.edg.len()),
+        edx: sizes.edx.max(lent.edx.len()),
+        fac: sizes.fac.max(lent.fac.len()),
+        rng: sizes.rng.max(lent.rng.len()),
+        cnd: sizes.cnd.max(lent.cnd.len()),
+        cnx: sizes.cnx.max(lent.cnx.len()),
     }
 }
 
 // What loading found, with the file that its refusal speaks of.
-fn loaded_as(cnx_read: bool, found: Loaded) -> Outcome
+fn loaded_as(cnx_read: bool, found: Result<Counts, Finding>) -> Result<Counts, Named>
     ensures { result ≡ loaded_as cnx_read found }
 {
     match found {
-        Loaded::Tile(c) => Outcome::Accepted(c),
-        Loaded::Refused(q) => Outcome::Refused(name(
-            files::file_of_finding(cnx_read, q),
-            q.refusal,
-        )),
+        Ok(counts) => Ok(counts),
+        Err(finding) => Err(Named {
+            file: files::file_of_finding(cnx_read, finding),
+            refusal: finding.refusal,
+        }),
     }
 }
 
 // The files of a directory, each with the size that it is said to have, loaded to the front of ten columns; a file too large may be lent in
 // part. cnx counts only where cnd shows K. A refusal changes nothing.
-pub fn load_files(
-    sizes: Sizes,
-    edg: &[u8],
-    edx: &[u8],
-    fac: &[u8],
-    rng: &[u8],
-    cnd: &[u8],
-    cnx: &[u8],
-    start_node: &mut [u32],
-    end_node: &mut [u32],
-    right_face: &mut [u32],
-    left_face: &mut [u32],
-    right_edge: &mut [u32],
-    left_edge: &mut [u32],
-    ring_ptr: &mut [u32],
-    fac_id: &mut [u32],
-    start_edge: &mut [u32],
-    first_edge: &mut [u32],
-) -> Outcome
-    ensures value { result ≡ loaded_of sizes
-        (directory edg.now edx.now fac.now rng.now
-        cnd.now cnx.now)
-        (lengths (columns start_node.old end_node.old right_face.old
-        left_face.old right_edge.old left_edge.old
-        ring_ptr.old fac_id.old
-        start_edge.old first_edge.old)) }
-    ensures first_edge_after { columns start_node.new end_node.new right_face.new
-        left_face.new right_edge.new left_edge.new
-        ring_ptr.new fac_id.new
-        start_edge.new first_edge.new
-        ≡ columns_after result
-        (files_read (directory edg.now edx.now fac.now rng.now
-        cnd.now cnx.now))
-        (columns start_node.old end_node.old right_face.old
-        left_face.old right_edge.old left_edge.old
-        ring_ptr.old fac_id.old
-        start_edge.old first_edge.old) }
+pub fn load_files(sizes: Sizes, lent: &Directory, columns: &mut ColumnsMut) -> Result<Counts, Named>
+    ensures value { result ≡ loaded_of sizes lent.now (lengths (contents columns.old)) }
+    ensures columns_after { contents columns.new ≡ columns_after result (files_read lent.now) (contents columns.old) }
+    ensures same_columns { SameColumns columns.old columns.new }
 {
-    let cnx_read = files::shows_triplet(cnd);
-    match files::too_large(take_sizes(sizes, edg, edx, fac, rng, cnd, cnx), cnx_read) {
-        AtFault::Is(file) => {
-            return over_limit(file);
-        }
-        AtFault::Nothing => {}
+    let cnx_read = files::shows_triplet(lent.cnd);
+    if let Some(file) = files::too_large(take_sizes(sizes, lent), cnx_read) {
+        return Err(over_limit(file));
     }
-    let none = &cnd[0..0];
-    let found = load::load(
-        edg,
-        edx,
-        fac,
-        none,
-        rng,
-        none,
-        cnd,
-        lent_index(cnx, cnx_read),
-        PROGRAM_ROWS,
-        start_node,
-        end_node,
-        right_face,
-        left_face,
-        right_edge,
-        left_edge,
-        ring_ptr,
-        fac_id,
-        start_edge,
-        first_edge,
-    );
-    loaded_as(cnx_read, found)
+    let none = &lent.cnd[0..0];
+    let sources = Sources {
+        edg: lent.edg,
+        edx: lent.edx,
+        fac: lent.fac,
+        fax: none,
+        rng: lent.rng,
+        rnx: none,
+        cnd: lent.cnd,
+        cnx: lent_index(lent.cnx, cnx_read),
+    };
+    loaded_as(cnx_read, load::load(&sources, PROGRAM_ROWS, columns))
 }
 
 // ---- checked, and walked
@@ -209,182 +168,106 @@ fn front_of<'a>(column: &'a [u32], n: usize) -> &'a [u32]
 }
 
 // The check's verdict, with the file that its refusal speaks of, in a tile with these ring faces and so many faces.
-fn checked_by(counts: Counts, fac_id: &[u32], faces: usize, verdict: Verdict) -> Outcome
+fn checked_by(
+    counts: Counts,
+    fac_id: &[u32],
+    faces: usize,
+    verdict: Result<(), Refusal>,
+) -> Result<Counts, Named>
     ensures { result ≡ checked_by counts fac_id.now faces verdict }
 {
     match verdict {
-        Verdict::Accepted => Outcome::Accepted(counts),
-        Verdict::Refused(q) => Outcome::Refused(name(files::file_of_verdict(fac_id, faces, q), q)),
+        Ok(()) => Ok(counts),
+        Err(refusal) => Err(Named {
+            file: files::file_of_verdict(fac_id, faces, refusal),
+            refusal,
+        }),
     }
 }
 
-// Whether one of two columns has not so many rows.
-fn two_short(n: usize, a: &[u32], b: &[u32]) -> bool
-    ensures { result ≡ (short n a.now || short n b.now) }
-{
-    if a.len() < n {
-        return true;
+impl<'a> Columns<'a> {
+    // The tile that stands at the front of the columns, with so many rows of each table.
+    fn held(&self, counts: Counts) -> Tile<'a>
+        ensures { result ≡ held counts self.now }
+    {
+        Tile {
+            edges: Edges {
+                start_node: front_of(self.start_node, counts.edges),
+                end_node: front_of(self.end_node, counts.edges),
+                right_face: front_of(self.right_face, counts.edges),
+                left_face: front_of(self.left_face, counts.edges),
+                right_edge: front_of(self.right_edge, counts.edges),
+                left_edge: front_of(self.left_edge, counts.edges),
+            },
+            ring_ptr: front_of(self.ring_ptr, counts.faces),
+            fac_id: front_of(self.fac_id, counts.rings),
+            start_edge: front_of(self.start_edge, counts.rings),
+            first_edge: front_of(self.first_edge, counts.nodes),
+        }
     }
-    b.len() < n
 }
 
-// Whether one of six columns has not so many rows.
-fn six_short(n: usize, a: &[u32], b: &[u32], c: &[u32], d: &[u32], e: &[u32], f: &[u32]) -> bool
-    ensures { result ≡ ((short n a.now || short n b.now)
-        || ((short n c.now || short n d.now) || (short n e.now || short n f.now))) }
+// Whether one of the six columns of edges has not so many rows.
+fn edges_short(counts: Counts, columns: &Columns) -> bool
+    ensures { result ≡ edges_short counts columns.now }
 {
-    if two_short(n, a, b) {
-        return true;
-    }
-    if two_short(n, c, d) {
-        return true;
-    }
-    two_short(n, e, f)
+    let n = counts.edges;
+    columns.start_node.len() < n
+        || columns.end_node.len() < n
+        || columns.right_face.len() < n
+        || columns.left_face.len() < n
+        || columns.right_edge.len() < n
+        || columns.left_edge.len() < n
+}
+
+// Whether one of the two columns of rings has not so many rows.
+fn rings_short(counts: Counts, columns: &Columns) -> bool
+    ensures { result ≡ (short counts.rings columns.now.fac_id || short counts.rings columns.now.start_edge) }
+{
+    columns.fac_id.len() < counts.rings || columns.start_edge.len() < counts.rings
 }
 
 // The first table of which a column is shorter than the counts say.
-fn short_table(
-    counts: Counts,
-    start_node: &[u32],
-    end_node: &[u32],
-    right_face: &[u32],
-    left_face: &[u32],
-    right_edge: &[u32],
-    left_edge: &[u32],
-    ring_ptr: &[u32],
-    fac_id: &[u32],
-    start_edge: &[u32],
-    first_edge: &[u32],
-) -> AtFault
-    ensures { result ≡ short_of counts
-        (columns start_node.now end_node.now right_face.now
-        left_face.now right_edge.now left_edge.now
-        ring_ptr.now fac_id.now
-        start_edge.now first_edge.now) }
+fn short_table(counts: Counts, columns: &Columns) -> Option<FileName>
+    ensures { result ≡ short_of counts columns.now }
 {
-    if six_short(
-        counts.edges,
-        start_node,
-        end_node,
-        right_face,
-        left_face,
-        right_edge,
-        left_edge,
-    ) {
-        return AtFault::Is(FileName::Edg);
+    if edges_short(counts, columns) {
+        return Some(FileName::Edg);
     }
-    if ring_ptr.len() < counts.faces {
-        return AtFault::Is(FileName::Fac);
+    if columns.ring_ptr.len() < counts.faces {
+        return Some(FileName::Fac);
     }
-    if two_short(counts.rings, fac_id, start_edge) {
-        return AtFault::Is(FileName::Rng);
+    if rings_short(counts, columns) {
+        return Some(FileName::Rng);
     }
-    if first_edge.len() < counts.nodes {
-        return AtFault::Is(FileName::Cnd);
+    if columns.first_edge.len() < counts.nodes {
+        return Some(FileName::Cnd);
     }
-    AtFault::Nothing
+    None
 }
 
 // The check of the tile that stands at the front of ten columns. Counts that the columns cannot have are refused.
-pub fn check_loaded(
-    counts: Counts,
-    start_node: &[u32],
-    end_node: &[u32],
-    right_face: &[u32],
-    left_face: &[u32],
-    right_edge: &[u32],
-    left_edge: &[u32],
-    ring_ptr: &[u32],
-    fac_id: &[u32],
-    start_edge: &[u32],
-    first_edge: &[u32],
-    marks: &mut [u32],
-) -> Outcome
-    ensures value { result ≡ checked_of counts
-        (columns start_node.now end_node.now right_face.now
-        left_face.now right_edge.now left_edge.now
-        ring_ptr.now fac_id.now
-        start_edge.now first_edge.now)
-        (length marks.old) }
-    ensures marks_after { marks.new ≡ marks_checked counts
-        (columns start_node.now end_node.now right_face.now
-        left_face.now right_edge.now left_edge.now
-        ring_ptr.now fac_id.now
-        start_edge.now first_edge.now)
-        marks.old }
+pub fn check_loaded(counts: Counts, columns: &Columns, marks: &mut [u32]) -> Result<Counts, Named>
+    ensures value { result ≡ checked_of counts columns.now (length marks.old) }
+    ensures marks_after { marks.new ≡ marks_checked counts columns.now marks.old }
 {
-    match short_table(
-        counts, start_node, end_node, right_face, left_face, right_edge, left_edge, ring_ptr,
-        fac_id, start_edge, first_edge,
-    ) {
-        AtFault::Is(file) => {
-            return over_limit(file);
-        }
-        AtFault::Nothing => {}
+    if let Some(file) = short_table(counts, columns) {
+        return Err(over_limit(file));
     }
-    let faces = front_of(ring_ptr, counts.faces);
-    let ring_faces = front_of(fac_id, counts.rings);
-    let verdict = tile::check(
-        front_of(start_node, counts.edges),
-        front_of(end_node, counts.edges),
-        front_of(right_face, counts.edges),
-        front_of(left_face, counts.edges),
-        front_of(right_edge, counts.edges),
-        front_of(left_edge, counts.edges),
-        faces,
-        ring_faces,
-        front_of(start_edge, counts.rings),
-        front_of(first_edge, counts.nodes),
-        marks,
-    );
-    checked_by(counts, ring_faces, faces.len(), verdict)
+    let tile = columns.held(counts);
+    let verdict = tile::check(&tile, marks);
+    checked_by(counts, tile.fac_id, tile.ring_ptr.len(), verdict)
 }
 
 // The walk from a ring row of the tile that stands at the front of ten columns: its steps, and its sides.
 pub fn walk_ring(
     counts: Counts,
-    start_node: &[u32],
-    end_node: &[u32],
-    right_face: &[u32],
-    left_face: &[u32],
-    right_edge: &[u32],
-    left_edge: &[u32],
-    ring_ptr: &[u32],
-    fac_id: &[u32],
-    start_edge: &[u32],
-    first_edge: &[u32],
+    columns: &Columns,
     row: usize,
     sides: &mut [u32],
-) -> Walked
-    ensures value { result ≡ walk_of
-        (held counts (columns start_node.now end_node.now right_face.now
-        left_face.now right_edge.now left_edge.now
-        ring_ptr.now fac_id.now
-        start_edge.now first_edge.now))
-        row (length sides.old) }
-    ensures sides_after { sides.new ≡ sides_written
-        (held counts (columns start_node.now end_node.now right_face.now
-        left_face.now right_edge.now left_edge.now
-        ring_ptr.now fac_id.now
-        start_edge.now first_edge.now))
-        row result sides.old }
+) -> Result<usize, Refusal>
+    ensures value { result ≡ walk_of (held counts columns.now) row (length sides.old) }
+    ensures sides_after { sides.new ≡ sides_written (held counts columns.now) row result sides.old }
 {
-    let e = counts.edges;
-    let f = counts.faces;
-    let r = counts.rings;
-    let n = counts.nodes;
-    tile::walk(
-        front_of(start_node, e),
-        front_of(end_node, e),
-        front_of(right_face, e),
-        front_of(left_face, e),
-        front_of(right_edge, e),
-        front_of(left_edge, e),
-        front_of(ring_ptr, f),
-        front_of(fac_id, r),
-        front_of(start_edge, r),
-        front_of(first_edge, n),
-        row,
-        sides,
-    )
+    tile::walk(&columns.held(counts), row, sides)
 }

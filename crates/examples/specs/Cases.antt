@@ -1,7 +1,7 @@
 -- "Examples (P: proved, as one table under a single statement)": what each of P1 to P11 hands to a public operation, and what document 01
 -- says is answered; and after them what a request of document 02 asks for. The operations' contracts are equations with the definitions
 -- that stand here.
-use Rattle.std.specs.Prelude.{◌≡◌, Bool, true, false, List, [], ◌∷◌, ◌++◌, map, ℕ, length, replicate}
+use Rattle.std.specs.Prelude.{◌≡◌, Bool, true, false, List, [], ◌∷◌, ◌++◌, map, ℕ, length, replicate, Some, Ok, Err}
 use Prim.Native.String.{String}
 use Rattle.laws.specs.Buffer.{one_to}
 use Rattle.laws.specs.Texts.{bytes}
@@ -10,27 +10,19 @@ use Rattle.refusal.specs.Order.{refusal}
 use Rattle.number.specs.declared.Order.{Order}
 use Rattle.number.specs.declared.Order.TheVariants.{Least, Most}
 use Rattle.number.specs.Bytes.{bytes_of}
-use Rattle.header.specs.declared.Answer.TheVariants as header
 use Rattle.header.specs.declared.Definition.{Definition}
-use Rattle.header.specs.declared.Step.TheVariants as step
-use Rattle.header.specs.Layouts.{header_of}
+use Rattle.header.specs.Layouts.{layout_of, handed_on, header_of}
 use Rattle.header.specs.Steps.{step_of}
 use Rattle.triplet.specs.declared.Ids.{Ids}
-use Rattle.triplet.specs.declared.Triplet.TheVariants as triplet
-use Rattle.triplet.specs.declared.Written.TheVariants.{Bytes}
-use Rattle.triplet.specs.Triplet.{ids, triplet_of}
+use Rattle.triplet.specs.Triplet.{ids, triplet, triplet_of}
 use Rattle.triplet.specs.Written.{written_of, row_after}
-use Rattle.wave.specs.declared.Height.TheVariants as height
 use Rattle.wave.specs.declared.Judgement.{Judgement}
-use Rattle.wave.specs.declared.Judgement.TheVariants as judgement
+use Rattle.wave.specs.declared.Judgement.TheVariants.{Passes, TooHigh}
 use Rattle.wave.specs.Height.{height_of}
 use Rattle.wave.specs.Judgement.{judgement_of}
-use Rattle.tile.specs.declared.Verdict.TheVariants as verdict
-use Rattle.tile.specs.declared.Walked.{Walked}
-use Rattle.tile.specs.declared.Walked.TheVariants.{Steps}
 use Rattle.tile.specs.Columns.{Tile, R, sides}
 use Rattle.tile.specs.Check.{verdict_of}
-use Rattle.tile.specs.Walk.{walk_of, sides_written}
+use Rattle.tile.specs.Walk.{Walked, walk_of, sides_written}
 
 -- ---- what is asked and answered
 
@@ -67,28 +59,28 @@ walks t = one_to (λ r. walk_of t r (sides t)) (R t)
 abbrev pub Holds : Case → Type 0
 Holds (rows_of text L width start) =
     (length (bytes text) ≡ L)
-    × ((header_of (file_of L text)).answer ≡ header.Accepted)
-    × ((header_of (file_of L text)).layout.width ≡ width)
-    × ((header_of (file_of L text)).layout.start ≡ start)
-Holds (no_header text L q) = (header_of (file_of L text)).answer ≡ header.Refused q
+    × (header_of (file_of L text) ≡ Ok (handed_on (file_of L text)))
+    × ((layout_of (file_of L text)).width ≡ width)
+    × ((layout_of (file_of L text)).start ≡ start)
+Holds (no_header text L q) = header_of (file_of L text) ≡ Err q
 Holds (column-at text L place comma after) =
-    (d : Definition) × (step_of (file_of L text) place ≡ step.Column d) × (d.comma ≡ comma) × (d.after ≡ after)
+    (d : Definition) × (step_of (file_of L text) place ≡ Ok (Some d)) × (d.comma ≡ comma) × (d.after ≡ after)
 -- written at the start of a row of just those bytes
 Holds (triplet_is o t s) =
-    (written_of (length s) 0 t ≡ Bytes (length s))
+    (written_of (length s) 0 t ≡ Ok (length s))
     × (row_after (written_of (length s) 0 t) o (replicate (length s) 0) 0 t ≡ s)
-    × (triplet_of o s ≡ triplet.Is t (length s))
+    × (triplet_of o s ≡ Ok (triplet t (length s)))
 -- in either order, whatever follows
-Holds (no_triplet t q) = (o : Order) (later : List ℕ) → triplet_of o (t ∷ later) ≡ triplet.Refused q
-Holds (against measured limit j) = judgement_of (bytes measured) (bytes limit) ≡ j
+Holds (no_triplet t q) = (o : Order) (later : List ℕ) → triplet_of o (t ∷ later) ≡ Err q
+Holds (against measured limit j) = judgement_of (bytes measured) (bytes limit) ≡ Ok j
 -- alone, and as the limit of whatever is measured
 Holds (no_height text q) =
-    (height_of (bytes text) ≡ height.Refused q) × ((measured : List ℕ) → judgement_of measured (bytes text) ≡ judgement.Refused q)
-Holds (rings_of t steps) = (verdict_of t (sides t) ≡ verdict.Accepted) × (walks t ≡ map Steps steps)
+    (height_of (bytes text) ≡ Err q) × ((measured : List ℕ) → judgement_of measured (bytes text) ≡ Err q)
+Holds (rings_of t steps) = (verdict_of t (sides t) ≡ Ok tt) × (walks t ≡ map Ok steps)
 Holds (writes_of t r sides) =
-    (walk_of t r (length sides) ≡ Steps (length sides))
+    (walk_of t r (length sides) ≡ Ok (length sides))
     × (sides_written t r (walk_of t r (length sides)) (replicate (length sides) 0) ≡ sides)
-Holds (no_tile t q) = verdict_of t (sides t) ≡ verdict.Refused q
+Holds (no_tile t q) = verdict_of t (sides t) ≡ Err q
 
 -- each case of a table is so
 abbrev pub All : (Case → Type 0) → List Case → Type 0
@@ -184,8 +176,8 @@ cases =
     -- P5: "type byte `41` is 11"; at the type byte
     ∷ no_triplet 0x41 (refusal 11 0)
     -- P6: "`10.0` against limit `2.5` does not pass; `2.5` does"
-    ∷ against "10.0" "2.5" judgement.TooHigh
-    ∷ against "2.5" "2.5" judgement.Passes
+    ∷ against "10.0" "2.5" TooHigh
+    ∷ against "2.5" "2.5" Passes
     -- P7: "four spaces, refusal 16 at 0"
     ∷ no_height "    " (refusal 16 0)
     -- P8: "left 3, 1, 2. Rings for faces 1 and 2 from edge 1: 3 and 3 steps"

@@ -2,25 +2,13 @@
 use mathlib.Core.Path.{◌≡◌}
 use mathlib.Core.Logic.{⊎_elim}
 use Prim.Native.Nat.{ℕ}
-use native.Mathlib.Omega.{arith}
-use borrow.Author.Tests.{eqb-true, eq-eqb}
-use lib.Dec.{eqb}
-use Rattle.laws.proofs.LowestLaws.{bool_cases}
-use Rattle.refusal.specs.declared.Refusal.{Refusal}
+use Rattle.std.specs.Prelude.{Ok}
+use Rattle.refusal.proofs.AnswerLaws.{ok-fine, answered-fine}
 use Rattle.tile.specs.Columns.{Tile}
-use Rattle.tile.specs.Check.{verdict, answered, verdict_of}
+use Rattle.tile.specs.Check.{verdict, verdict_of}
 use Rattle.facts.specs.Facts.{Facts, Test, sizes, owner_space, nodes, faces, links, successors, predecessors, first_edges, ring_faces}
 use Rattle.facts.specs.Facts.{runs, starts, not_named_twice, covered, Holds}
-use Rattle.tile.specs.declared.Verdict.TheVariants.{Accepted}
 use Rattle.facts.proofs.InOrder.{judged, none_refused}
-
--- the answer is `Accepted` exactly where no number is refused
-pub accepted_number : (q : Refusal) → answered q ≡ Accepted → q.number ≡ 0
-accepted_number q e =
-    bool_cases (eqb q.number 0) (eqb-true q.number 0) (λ c. let w = rw c at e in let z : ◌≡◌ {A = ℕ} 0 1 = cc in absurd (omega arith))
-
-pub number_accepted : (q : Refusal) → q.number ≡ 0 → answered q ≡ Accepted
-number_accepted q e = rw (eq-eqb q.number 0 e)
 
 -- the facts are what the thirteen tests ask
 module _ (t : Tile) (space : ℕ) where
@@ -56,11 +44,11 @@ module _ (t : Tile) (space : ℕ) where
     covered = h covered;
   }
 
-  pub accepted : verdict_of t space ≡ Accepted → Facts t space
+  pub accepted : verdict_of t space ≡ Ok tt → Facts t space
   accepted e =
-      let z = accepted_number (verdict t space) e in
+      let z = ok-fine (verdict t space) e in
       ⊎_elim (λ h. facts h.1) (λ h. absurd (h.0 z)) (judged t space)
 
-  pub facts_accepted : Facts t space → verdict_of t space ≡ Accepted
+  pub facts_accepted : Facts t space → verdict_of t space ≡ Ok tt
   facts_accepted h =
-      ⊎_elim (λ w. number_accepted (verdict t space) w.0) (λ w. absurd (none_refused t space (all_hold h) _ _ w.1)) (judged t space)
+      ⊎_elim (λ w. answered-fine (verdict t space) w.0) (λ w. absurd (none_refused t space (all_hold h) _ _ w.1)) (judged t space)

@@ -31,18 +31,17 @@ use Rattle.laws.proofs.OrbitLaws.{iterate_in, closes, returns_to, no_repeat, red
 use Rattle.laws.proofs.TestLaws.{nonzero}
 use Rattle.side.specs.Edges.{face}
 use Rattle.side.specs.Successor.{successor, after}
-use Rattle.side.specs.declared.Successor.TheVariants.{Side}
+use Rattle.std.specs.Prelude.{Ok}
 use Rattle.side.proofs.SuccessorExactly.{not-outside, after_side, successor_side}
 use Rattle.tile.specs.Columns.{Tile, E, R, sides, start_side}
 use Rattle.tile.specs.Check.{verdict, verdict_of, marks_left, marks_after}
 use Rattle.tile.specs.Walk.{came_back, moves, walk_of, side_after, steps_of, all_steps, ring_steps, ring_sides}
 use Rattle.facts.specs.Facts.{Facts, EmptyRing, HasStart}
 use Rattle.facts.specs.Demand.{Closed, Walks, Stands, OneRing, NoStart, OneEmptyRing, Demand3}
-use Rattle.tile.specs.declared.Verdict.TheVariants.{Accepted}
-use Rattle.tile.specs.declared.Walked.TheVariants.{Steps}
 use Rattle.facts.proofs.TestsInWords.{sizes_exactly, goes, single, Placed, start_exactly, no_start_side, has_start, start_placed}
 use Rattle.facts.proofs.TestsInWords.{start_within, meets_exactly, named_exactly, covered_exactly}
-use Rattle.facts.proofs.AcceptedExactly.{accepted, accepted_number}
+use Rattle.facts.proofs.AcceptedExactly.{accepted}
+use Rattle.refusal.proofs.AnswerLaws.{ok-fine}
 use Rattle.facts.proofs.WalkExactly.{counts_the_return, first_return_lowest}
 
 module _ (t : Tile) (space : ℕ) (h : Facts t space) where
@@ -112,7 +111,7 @@ module _ (t : Tile) (space : ℕ) (h : Facts t space) where
     apart j k l m e = let S = place r i some in let q = steps r i some in no_repeat (after t.edg) (sides t) into once
         (start_side t r) S.pos S.within j k l (omega arith) e
 
-    moves_on : (k : ℕ) → successor t.edg (iterate (after t.edg) k (start_side t r)) ≡ Side
+    moves_on : (k : ℕ) → successor t.edg (iterate (after t.edg) k (start_side t r)) ≡ Ok
         (iterate (after t.edg) (suc k) (start_side t r))
     moves_on k = after_side t.edg _ (in_place (suc k)).0
 
@@ -121,10 +120,10 @@ module _ (t : Tile) (space : ℕ) (h : Facts t space) where
 
     -- THE WALK COMES BACK to its first side and meets no side twice
     follows : (j : ℕ) → In (ring_steps t r) j → (u : ℕ) → iterate (after t.edg) j (start_side t r) ≡ u
-        → successor t.edg (entry (ring_sides t r) j) ≡ Side u
+        → successor t.edg (entry (ring_sides t r) j) ≡ Ok u
     follows j b u v =
         let q : suc (pred j) ≡ j = omega arith in
-        ap (successor t.edg) (written j b) ∙ moves_on (pred j) ∙ ap Side (ap (λ (m : ℕ). iterate (after t.edg) m (start_side t r)) q ∙ v)
+        ap (successor t.edg) (written j b) ∙ moves_on (pred j) ∙ ap Ok (ap (λ (m : ℕ). iterate (after t.edg) m (start_side t r)) q ∙ v)
 
     closed : Closed t r (ring_sides t r)
     closed =
@@ -198,7 +197,7 @@ module _ (t : Tile) (space : ℕ) (h : Facts t space) where
   lists_add_up = sum_law (after t.edg) (sides t) into once (start_side t) (R t) starts never_twice all_met
 
   -- what `walk` answers from a ring row
-  answers : (r : ℕ) → In (R t) r → (room : ℕ) → ring_steps t r ≤ room → walk_of t r room ≡ Steps (ring_steps t r)
+  answers : (r : ℕ) → In (R t) r → (room : ℕ) → ring_steps t r ≤ room → walk_of t r room ≡ Ok (ring_steps t r)
   unfolding walk_of
   answers r i room fits =
       rw ((sizes_exactly t).1 h.sizes, (not-outside (R t) r).1 i, (start_exactly t r).1 (h.starts r i))
@@ -228,7 +227,7 @@ module _ (t : Tile) (space : ℕ) (h : Facts t space) where
       record {
         row_one = w.row_one;
         face_one = w.face_one;
-        no_steps = λ space. answers r i space (omega arith) ∙ ap Steps none;
+        no_steps = λ space. answers r i space (omega arith) ∙ ap Ok none;
         no_sides = ap (listed (side_after t r)) none;
         owns_none = λ s j e.
             let o = owned s j marks v in
@@ -256,15 +255,15 @@ module _ (t : Tile) (space : ℕ) (h : Facts t space) where
       }
 
 -- ---- of an accepted tile: the walk counts the first return
-pub counts_first_return : (t : Tile) (space : ℕ) → verdict_of t space ≡ Accepted → (a : ℕ) → In (sides t) a
+pub counts_first_return : (t : Tile) (space : ℕ) → verdict_of t space ≡ Ok tt → (a : ℕ) → In (sides t) a
     → moves t.edg a ≡ came_back (first_return (after t.edg) (sides t) a)
 counts_first_return t space e a i = counts_return t space (accepted t space e) a i
 
 -- DEMAND 3
-pub demand3 : (t : Tile) (marks : List ℕ) → verdict_of t (length marks) ≡ Accepted → Demand3 t marks
+pub demand3 : (t : Tile) (marks : List ℕ) → verdict_of t (length marks) ≡ Ok tt → Demand3 t marks
 demand3 t marks e =
     let h = accepted t (length marks) e in
-    let z = accepted_number (verdict t (length marks)) e in
+    let z = ok-fine (verdict t (length marks)) e in
     record {
       walks = walks t (length marks) h;
       without_start = without_start t (length marks) h marks z;

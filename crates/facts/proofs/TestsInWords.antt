@@ -17,10 +17,11 @@ use Rattle.laws.proofs.SumLaws.{sum_most, hits_single, hits_some, hits_one, inj_
 use Rattle.laws.proofs.OrbitLaws.{row_meets_lem, meets_of, of_meets}
 use Rattle.refusal.specs.Order.{refusal, refused_if, located, lowest_of}
 use Rattle.refusal.proofs.JudgedLaws.{Judged, judged_lowest, none_found, judged_lowest_of, judged_once}
-use Rattle.side.specs.declared.Successor.{Successor}
-use Rattle.side.specs.declared.Successor.TheVariants.{Side, Wrong}
+use Rattle.std.specs.Prelude.{Ok, Err}
+use Rattle.refusal.specs.Kinds.{number_of}
+use Rattle.refusal.specs.declared.Kind.{Kind}
 use Rattle.side.specs.Edges.{outside, edge_of, face}
-use Rattle.side.specs.Successor.{successor, after, LinkIn, Fault}
+use Rattle.side.specs.Successor.{Successor, successor, after, LinkIn, Fault}
 use Rattle.side.proofs.SuccessorExactly.{not-outside, face_of_right, face_of_left, successor_follows, follows_successor, wrong_fault}
 use Rattle.side.proofs.SuccessorExactly.{wrong_number, successor_side, side_after_lem}
 use Rattle.tile.specs.Columns.{Tile, E, F, R, N, sides, start_side, empty_start}
@@ -97,14 +98,14 @@ module _ (t : Tile) where
       let l = h (edge_of s) (omega arith, omega arith) in
       bool_cases (eqb (s % 2) 1) (λ c. rw c l.0) (λ c. rw c l.1)
 
-  succeeded : (s u : ℕ) → successor t.edg s ≡ Side u → Succeeded t s
+  succeeded : (s u : ℕ) → successor t.edg s ≡ Ok u → Succeeded t s
   succeeded s u e = (u, successor_follows t.edg s u e)
 
   -- the refusal of one side
   side_view : (s : ℕ) (c : Successor) → successor t.edg s ≡ c
-      → (((refused_side s c).number ≡ 0) × Succeeded t s) ⊎ ((n : ℕ) × (successor t.edg s ≡ Wrong n) × (refused_side s c ≡ refusal n s))
-  side_view s (Side u) e = inl (refl, succeeded s u e)
-  side_view s (Wrong n) e = inr (n, e, refl)
+      → (((refused_side s c).number ≡ 0) × Succeeded t s) ⊎ ((k : Kind) × (successor t.edg s ≡ Err k) × (refused_side s c ≡ refusal (number_of k) s))
+  side_view s (Ok u) e = inl (refl, succeeded s u e)
+  side_view s (Err k) e = inr (k, e, refl)
 
   judged_side : (s : ℕ) → LinkIn t.edg s
       → Judged (side_refusal t s) (Succeeded t s) (λ n p. (p ≡ s) × Fault t.edg s n × (Succeeded t s → ⊥))

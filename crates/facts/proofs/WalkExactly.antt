@@ -10,7 +10,7 @@
 -- Every path passes the sides of that function (`along`), which are those that are written (`walk_writes`).
 use mathlib.Core.Path.{◌≡◌, refl, sym, ap, ◌∙◌}
 use mathlib.Core.Logic.{◌↔◌, by_cases, inl, inr, ⊎_elim}
-use mathlib.Core.Bool.{true, false, true≢false}
+use mathlib.Core.Bool.{true≢false}
 use mathlib.Core.List.{List}
 use Prim.Native.Nat.{ℕ, zero, suc, ◌+◌, ◌-◌, ◌≤◌, ◌<◌}
 use native.Mathlib.Numerals.{add-one}
@@ -27,20 +27,20 @@ use Rattle.laws.proofs.BufferLaws.{length_front, front_low, front_high}
 use Rattle.refusal.specs.declared.Refusal.{Refusal}
 use Rattle.refusal.specs.Order.{refusal}
 use Rattle.side.specs.Edges.{Edges, side_count, outside, edge_of}
-use Rattle.side.specs.Successor.{successor, after, LinkIn, Follows, Fault}
-use Rattle.side.specs.declared.Successor.{Successor}
-use Rattle.side.specs.declared.Successor.TheVariants.{Side, Wrong}
+use Rattle.side.specs.Successor.{Successor, successor, after, LinkIn, Follows, Fault}
+use Rattle.std.specs.Prelude.{Ok, Err}
+use Rattle.refusal.specs.Kinds.{number_of}
+use Rattle.refusal.specs.declared.Kind.{Kind}
+use Rattle.refusal.specs.declared.Kind.TheVariants.{EdgeOutOfRange}
 use Rattle.side.proofs.SuccessorExactly.{not-outside, Says, says, successor_follows, follows_successor}
-use Rattle.side.proofs.SuccessorExactly.{after_side, side_after_lem, after_zero, fault_wrong, fault_number, link_wrong}
-use Rattle.tile.specs.Columns.{Tile, R, sides, start_side}
+use Rattle.side.proofs.SuccessorExactly.{after_side, side_after_lem, after_zero, fault_answer, fault_number, link_wrong}
+use Rattle.tile.specs.Columns.{Tile, R, start_side}
 use Rattle.tile.specs.Check.{sizes_wrong, start_wrong}
 use Rattle.facts.specs.Facts.{Sizes, StartsOnSide}
-use Rattle.tile.specs.Walk.{Moves, came_back, still_open, stuck, stuck_at, moves_from, moves, walked, walk_of, side_after, sides_written}
+use Rattle.tile.specs.Walk.{Walked, Moves, came_back, still_open, stuck, stuck_at, moves_from, moves, walked, walk_of, side_after, sides_written}
 use Rattle.facts.specs.WalkWords.{Path, FirstReturn, Reached, NoReturn, Begins}
 use Rattle.facts.specs.WalkWords.{WalkRefused, wrong_sizes, no_such_ring, wrong_start, outside_link, no_successor, does_not_close, short_output}
 use Rattle.facts.specs.WalkWords.{WalkAnswered, empty_ring, returned, Writes}
-use Rattle.tile.specs.declared.Walked.{Walked}
-use Rattle.tile.specs.declared.Walked.TheVariants.{Steps, Refused}
 use Rattle.facts.proofs.TestsInWords.{sizes_exactly, start_side_lem, no_start_side, placed, start_exactly}
 use Rattle.facts.proofs.StartExactly.{start_side_of, starts_on, start_side_is}
 use Rattle.tile.proofs.WalkLaws.{cannot_move, back_home, moves_on, stays_open}
@@ -70,21 +70,22 @@ module _ (t : Edges) (a : ℕ) where
     not_yet = λ i u l e. o i u (omega arith) e;
   }
 
-  stuck-says : (k n : ℕ) → k < side_count t → Path t a k way → Away k → Says t (way k) (Wrong n) → NoMove t a (stuck_at n (way k))
-  stuck-says k n l p o h =
+  stuck-says : (k : ℕ) (kind : Kind) → k < side_count t → Path t a k way → Away k → Says t (way k) (Err kind)
+      → NoMove t a (stuck_at (number_of kind) (way k))
+  stuck-says k kind l p o h =
       let reached : Reached t a k (way k) = record { fewer = l; path = way; walked = p; there = refl; not_back = λ u. o k u (omega arith) } in
       ⊎_elim
       (λ w. rw w.0 (by_link k (way k) reached w.1))
       (λ w.
-      let b = fault_number t (way k) n w.1 in
-      rw (ne_eqb n 22 (λ e. omega arith)) (by_fault k (way k) n reached w.0 w.1))
+      let b = fault_number t (way k) (number_of kind) w.1 in
+      rw (ne_eqb (number_of kind) 22 (λ e. omega (arith, e, b))) (by_fault k (way k) (number_of kind) reached w.0 w.1))
       h
 
   -- one move, and then `rest`
   on_move : (fuel k : ℕ) → k < side_count t → Path t a k way → Away k
       → (Path t a (suc k) way → Away (suc k) → MovesSay t a (moves_from t a fuel (way (suc k)) (suc k)))
       → (c : Successor) → successor t (way k) ≡ c → MovesSay t a (moves_from t a (suc fuel) (way k) k)
-  on_move fuel k l p o rest (Side u) e =
+  on_move fuel k l p o rest (Ok u) e =
       let next : way (suc k) ≡ u = side_after_lem t (way k) u e in
       let further = longer k p o (rw next (successor_follows t (way k) u e)) in
       rw e
@@ -93,7 +94,7 @@ module _ (t : Edges) (a : ℕ) where
       (λ c.
       let not_back : way (suc k) ≡ a → ⊥ = λ z. eqb-false u a c (sym next ∙ z) in
       rw (c, ← next) (rest further (λ i x y. by_cases (ℕ_discrete i (suc k)) (λ z. rw z not_back) (λ z. o i x (omega arith))))))
-  on_move fuel k l p o rest (Wrong n) e = rw e (stuck-says k n l p o (rw e at (says t (way k))))
+  on_move fuel k l p o rest (Err kind) e = rw e (stuck-says k kind l p o (rw e at (says t (way k))))
 
   moves_say : 0 < side_count t → (fuel k : ℕ) → k + fuel ≡ side_count t → Path t a k way → Away k → MovesSay t a (moves_from t a fuel (way k) k)
   moves_say some zero k q p o =
@@ -143,15 +144,15 @@ module _ (t : Edges) (a : ℕ) where
       (λ j u v. by_cases (ℕ_discrete j n) (λ e. rw e h.not_back) (λ e. p.not_yet j u (omega arith))))
       (omega arith))
 
-  gets_stuck : (k s n : ℕ) → Reached t a k s → successor t s ≡ Wrong n → moves t a ≡ stuck (stuck_at n s)
-  gets_stuck k s n h e =
+  gets_stuck : (k s : ℕ) (kind : Kind) → Reached t a k s → successor t s ≡ Err kind → moves t a ≡ stuck (stuck_at (number_of kind) s)
+  gets_stuck k s kind h e =
       let p = h.walked in
       let l = h.fewer in
       let along =
       goes_along k h.path p k (omega arith) (omega arith)
       (λ j u v. by_cases (ℕ_discrete j k) (λ z x. h.not_back (omega arith) (sym h.there ∙ ap h.path (sym z) ∙ x))
       (λ z. p.not_yet j u (omega arith))) in
-      sym (cannot_move t a (side_count t) s k (moves t a) (rw h.there at along) n (stuck_at n s) l e refl)
+      sym (cannot_move t a (side_count t) s k (moves t a) (rw h.there at along) kind (stuck_at (number_of kind) s) l e refl)
 
   -- THERE IS ONE FIRST RETURN at most
   pub one_first_return : (k j : ℕ) → FirstReturn t a k → FirstReturn t a j → k ≡ j
@@ -223,8 +224,8 @@ module _ (t : Tile) (r : ℕ) where
 
   -- each answer in words
   abbrev WalkSays : ℕ → Walked → Type 0
-  WalkSays space (Steps k) = WalkAnswered t r space k
-  WalkSays space (Refused q) = WalkRefused t r space q.number q.place
+  WalkSays space (Ok k) = WalkAnswered t r space k
+  WalkSays space (Err q) = WalkRefused t r space q.number q.place
 
   moves_in_words : (space a : ℕ) → Begins t r a → (m : Moves) → MovesSay t.edg a m → WalkSays space (walked r space m)
   moves_in_words space a b (came_back k) h =
@@ -259,7 +260,7 @@ module _ (t : Tile) (r : ℕ) where
       ((start_exactly t r).0 m))))
 
   -- and where the words hold the answer is given
-  words_refused : (space n p : ℕ) → WalkRefused t r space n p → walk_of t r space ≡ Refused (refusal n p)
+  words_refused : (space n p : ℕ) → WalkRefused t r space n p → walk_of t r space ≡ Err (refusal n p)
   unfolding walk_of
   words_refused space n p (wrong_sizes denied) =
       bool_cases (sizes_wrong t) (λ w. rw w) (λ w. absurd (denied ((sizes_exactly t).0 w)))
@@ -268,16 +269,17 @@ module _ (t : Tile) (r : ℕ) where
   words_refused space n p (wrong_start s i denied) =
       bool_cases (start_wrong t r) (λ m. rw ((sizes_exactly t).1 s, (not-outside (R t) r).1 i, m)) (λ m. absurd (denied ((start_exactly t r).0 m)))
   words_refused space n p (outside_link a k s b h denied) =
-      walk_moves space a b ∙ ap (walked r space) (gets_stuck t.edg a k s 22 h (link_wrong t.edg s denied))
+      walk_moves space a b ∙ ap (walked r space) (gets_stuck t.edg a k s EdgeOutOfRange h (link_wrong t.edg s denied))
   words_refused space n p (no_successor a k s m b h l f) =
       let v = fault_number t.edg s m f in
-      let q : stuck_at m s ≡ refusal m s = rw (ne_eqb m 22 (λ e. omega arith)) in
-      walk_moves space a b ∙ ap (walked r space) (gets_stuck t.edg a k s m h (fault_wrong t.edg s m l f)) ∙ ap Refused q
+      let w = fault_answer t.edg s m l f in
+      let q : stuck_at (number_of w.0) s ≡ refusal m s = rw (w.1, ne_eqb m 22 (λ e. omega arith)) in
+      walk_moves space a b ∙ ap (walked r space) (gets_stuck t.edg a k s w.0 h w.2) ∙ ap Err q
   words_refused space n p (does_not_close a b h) = walk_moves space a b ∙ ap (walked r space) (stays_away t.edg a h)
   words_refused space n p (short_output a k b h l) =
       walk_moves space a b ∙ ap (walked r space) (counts_the_return t.edg a k h) ∙ rw (lt-ltb space k l)
 
-  words_answered : (space k : ℕ) → WalkAnswered t r space k → walk_of t r space ≡ Steps k
+  words_answered : (space k : ℕ) → WalkAnswered t r space k → walk_of t r space ≡ Ok k
   unfolding walk_of
   words_answered space k (empty_ring s i none) =
       rw ((sizes_exactly t).1 s, (not-outside (R t) r).1 i, (start_exactly t r).1 (inl none), eq-eqb (start_side t r) 0 (no_start_side t r none.no_start))
@@ -285,11 +287,11 @@ module _ (t : Tile) (r : ℕ) where
       walk_moves space a b ∙ ap (walked r space) (counts_the_return t.edg a j h) ∙ rw (le-ltb space j l)
 
   -- THE WALK IS REFUSED WITH n AT p, exactly
-  pub walk_refused_exactly : (space n p : ℕ) → (walk_of t r space ≡ Refused (refusal n p)) ↔ WalkRefused t r space n p
+  pub walk_refused_exactly : (space n p : ℕ) → (walk_of t r space ≡ Err (refusal n p)) ↔ WalkRefused t r space n p
   walk_refused_exactly space n p = (λ e. rw e at (walk_in_words space), words_refused space n p)
 
   -- THE WALK ANSWERS WITH k STEPS, exactly
-  pub walk_answered_exactly : (space k : ℕ) → (walk_of t r space ≡ Steps k) ↔ WalkAnswered t r space k
+  pub walk_answered_exactly : (space k : ℕ) → (walk_of t r space ≡ Ok k) ↔ WalkAnswered t r space k
   walk_answered_exactly space k = (λ e. rw e at (walk_in_words space), words_answered space k)
 
   -- THE STEPS ARE THE FIRST RETURN of the start side under the successor, given room, of a tile accepted or not whose 15 and 13
@@ -299,7 +301,7 @@ module _ (t : Tile) (r : ℕ) where
   first_return_of space k some (returned a j b h l) = rw (start_side_of t r a b.start) h
 
   pub steps_are_first_return : Sizes t → In (R t) r → (start_side t r ≡ 0 → ⊥) → (space k : ℕ) → k ≤ space
-      → (walk_of t r space ≡ Steps k) ↔ FirstReturn t.edg (start_side t r) k
+      → (walk_of t r space ≡ Ok k) ↔ FirstReturn t.edg (start_side t r) k
   steps_are_first_return s i some space k room =
       let on : StartsOnSide t r = ⊎_elim (λ h. absurd (some h.0)) (λ h. h.0) (start_side_lem t r) in (
         λ e. first_return_of space k some ((walk_answered_exactly space k).0 e),
@@ -311,7 +313,7 @@ module _ (t : Tile) (r : ℕ) where
   has_room space k (empty_ring s i none) = omega arith
   has_room space k (returned a j b h l) = l
 
-  pub walk_writes : (a : ℕ) → Begins t r a → (out : List ℕ) (k : ℕ) → walk_of t r (length out) ≡ Steps k
+  pub walk_writes : (a : ℕ) → Begins t r a → (out : List ℕ) (k : ℕ) → walk_of t r (length out) ≡ Ok k
       → (path : ℕ → ℕ) → Path t.edg a k path → Writes k path out (sides_written t r (walk_of t r (length out)) out)
   walk_writes a b out k e path p =
       let g = side_after t r in

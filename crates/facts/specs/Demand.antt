@@ -3,17 +3,15 @@
 -- side's face. The reported steps of all rings add up to exactly twice the number of edges. A tile without edges has one empty ring
 -- and a sum of zero." Document 02, No. 1: "Such a ring has 0 steps and owns no side .. Demand 3 then speaks of the rings with a start
 -- edge, and the sum stays twice the edge count."
-use Rattle.std.specs.Prelude.{◌≡◌, List, [], ◌++◌, ℕ, suc, ◌≤◌, ◌<◌, length, drop}
+use Rattle.std.specs.Prelude.{◌≡◌, List, [], ◌++◌, ℕ, suc, ◌≤◌, ◌<◌, length, drop, Ok}
 use Rattle.laws.specs.Lowest.{In, Each}
 use Rattle.laws.specs.Sums.{sum}
 use Rattle.laws.specs.Orbit.{entry}
 use Rattle.side.specs.Edges.{face}
 use Rattle.side.specs.Successor.{successor}
-use Rattle.side.specs.declared.Successor.TheVariants.{Side}
 use Rattle.tile.specs.Columns.{Tile, E, R, sides, start_side}
 use Rattle.tile.specs.Check.{marks_after}
 use Rattle.tile.specs.Walk.{walk_of, sides_written, all_steps, ring_steps, ring_sides}
-use Rattle.tile.specs.declared.Walked.TheVariants.{Steps}
 use Rattle.facts.specs.Facts.{HasStart}
 
 -- "comes back to its first side without meeting any side twice, in no more than twice the edge count": the list starts with the
@@ -21,8 +19,8 @@ use Rattle.facts.specs.Facts.{HasStart}
 pub record Closed (t : Tile) (r : ℕ) (l : List ℕ) : Type 0 where
   pub some : 0 < length l
   pub first : entry l 1 ≡ start_side t r
-  pub next : (i : ℕ) → 0 < i → i < length l → successor t.edg (entry l i) ≡ Side (entry l (suc i))
-  pub back : successor t.edg (entry l (length l)) ≡ Side (entry l 1)
+  pub next : (i : ℕ) → 0 < i → i < length l → successor t.edg (entry l i) ≡ Ok (entry l (suc i))
+  pub back : successor t.edg (entry l (length l)) ≡ Ok (entry l 1)
   pub once : (i j : ℕ) → In (length l) i → In (length l) j → entry l i ≡ entry l j → i ≡ j
   pub at_most : length l ≤ sides t
 
@@ -30,7 +28,7 @@ pub record Closed (t : Tile) (r : ℕ) (l : List ℕ) : Type 0 where
 -- and writes the list, and the rest is as it was; the list of a ring with a start edge is closed
 pub record Walks (t : Tile) (r : ℕ) : Type 0 where
   pub given_room : (out : List ℕ) → length (ring_sides t r) ≤ length out
-      → (walk_of t r (length out) ≡ Steps (length (ring_sides t r)))
+      → (walk_of t r (length out) ≡ Ok (length (ring_sides t r)))
       × (sides_written t r (walk_of t r (length out)) out ≡ ring_sides t r ++ drop (length (ring_sides t r)) out)
   pub closed : HasStart t r → Closed t r (ring_sides t r)
 
@@ -52,7 +50,7 @@ pub record OneRing (t : Tile) (marks : List ℕ) (s : ℕ) : Type 0 where
 pub record NoStart (t : Tile) (marks : List ℕ) (r : ℕ) : Type 0 where
   pub row_one : r ≡ 1
   pub face_one : entry t.fac_id r ≡ 1
-  pub no_steps : (space : ℕ) → walk_of t r space ≡ Steps 0
+  pub no_steps : (space : ℕ) → walk_of t r space ≡ Ok 0
   pub no_sides : ring_sides t r ≡ []
   pub owns_none : (s : ℕ) → In (sides t) s → entry (marks_after t marks) s ≡ r → ⊥
 

@@ -26,10 +26,7 @@ least half bits h = (to, from (ltb bits (suc half)) refl)
 
     from : (b : Bool) → ltb bits (suc half) ≡ b
         → Number (cond b (pos bits) (negsuc (suc half + suc half - suc bits))) ≡ Number (negsuc half) → eqb bits (suc half) ≡ true
-    from true e q = let z : ◌≡◌ {A = ℕ} 0 1 = cc in absurd (no z)
-      where
-        no : ◌≡◌ {A = ℕ} 0 1 → ⊥
-        no z = omega arith
+    from true e q = cc
     from false e q =
         let d : suc half + suc half - suc bits ≡ half = cc in
         eq-eqb bits (suc half) (omega arith)

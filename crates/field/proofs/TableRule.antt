@@ -7,19 +7,19 @@ use Prim.Native.Nat.{ℕ, zero, suc, pred, ◌≤◌, ◌<◌}
 use native.Mathlib.Omega.{arith}
 use lib.IntN.{ℤ, pos, negsuc}
 use lib.Dec.{eqb, eqb-suc-zero}
+use Rattle.std.proofs.lemmas.Bool.Decides.{nat_tests}
 use borrow.Author.Tests.{eqb-true, eq-eqb, leb-true, le-leb, not-false}
 use Rattle.laws.specs.Lowest.{lowest}
 use Rattle.laws.proofs.LowestLaws.{bool_cases, lowest-zero}
 use Rattle.laws.proofs.TestLaws.{clash}
-use Rattle.field.specs.Fields.{letter_of, width_of, star_of, null_of, types, find, type_of, in_range, count_right, most_count}
+use Rattle.std.specs.Prelude.{Some, None}
+use Rattle.field.specs.Fields.{Lookup, letter_of, width_of, star_of, null_of, types, find, type_of, in_range, count_right, most_count}
 use Rattle.field.specs.Table.{Count, number_or_star, one, Row, table, element_width, star_allowed, RightCount, Agrees, Entry, listed, unlisted, entry_in, Right}
 use Rattle.field.specs.declared.FieldType.{FieldType}
 use Rattle.field.specs.declared.FieldType.TheVariants.{Text, Latin, Float, Double, Short, Integer, ShortPair, ShortTriple, DoublePair}
 use Rattle.field.specs.declared.FieldType.TheVariants.{DoubleTriple, Date, NullField, Triplet}
 use Rattle.field.specs.declared.NullValue.{NullValue}
 use Rattle.field.specs.declared.NullValue.TheVariants.{Nothing, Number, NotANumber}
-use Rattle.field.specs.declared.Lookup.{Lookup}
-use Rattle.field.specs.declared.Lookup.TheVariants.{Is, Unlisted}
 
 -- ---- the test of a row, and what it shows
 
@@ -45,17 +45,13 @@ agree r t = eqb (letter_of t) r.letter && eqb (width_of t) (element_width r.byte
     (star_allowed r.count) && same_null (null_of t) r.null
 
 abbrev right : Entry → Lookup → Bool
-right (listed r) (Is t) = agree r t
-right (listed r) Unlisted = false
-right unlisted (Is t) = false
-right unlisted Unlisted = true
+right (listed r) (Some t) = agree r t
+right (listed r) None = false
+right unlisted (Some t) = false
+right unlisted None = true
 
 never : {C : Type 0} → false ≡ true → C
 never e = absurd (false≢true e)
-
-both : (a b : Bool) → (a && b) ≡ true → (a ≡ true) × (b ≡ true)
-both true b h = (refl, h)
-both false b h = never h
 
 same_bool : (a b : Bool) → beq a b ≡ true → a ≡ b
 same_bool true true h = refl
@@ -93,26 +89,19 @@ counts_by t one e true n = rw e ((λ h. false≢true h), (λ h. absurd h))
 counts_by t one e false n = rw e (eqb-true n 1, eq-eqb n 1)
 
 agrees : (r : Row) (t : FieldType) → agree r t ≡ true → Agrees r t
-agrees r t h =
-    let a = both (eqb (letter_of t) r.letter && eqb (width_of t) (element_width r.bytes) && beq (star_of t)
-    (star_allowed r.count)) (same_null (null_of t) r.null) h in
-    let b = both (eqb (letter_of t) r.letter && eqb (width_of t) (element_width r.bytes))
-    (beq (star_of t) (star_allowed r.count)) a.0 in
-    let c = both (eqb (letter_of t) r.letter) (eqb (width_of t) (element_width r.bytes)) b.0 in
-    let s = same_bool (star_of t) (star_allowed r.count) b.1 in
-    record {
-      letter = eqb-true (letter_of t) r.letter c.0;
-      width = eqb-true (width_of t) (element_width r.bytes) c.1;
-      star = s;
-      null = same_null_lem (null_of t) r.null a.1;
-      counts = counts_by t r.count s;
-    }
+agrees r t h = record {
+  letter = grind (arith, nat_tests, h);
+  width = grind (arith, nat_tests, h);
+  star = grind (arith, nat_tests, same_bool, h);
+  null = grind (arith, same_null_lem, h);
+  counts = counts_by t r.count (grind (arith, same_bool, h));
+}
 
 shows : (x : Entry) (y : Lookup) → right x y ≡ true → Right x y
-shows (listed r) (Is t) h = agrees r t h
-shows (listed r) Unlisted h = never h
-shows unlisted (Is t) h = never h
-shows unlisted Unlisted h = tt
+shows (listed r) (Some t) h = agrees r t h
+shows (listed r) None h = never h
+shows unlisted (Some t) h = never h
+shows unlisted None h = tt
 
 -- ---- the computed table
 
@@ -132,7 +121,7 @@ table_rule b h =
     (not-false (right (entry_in b table) (type_of b)) ((lowest-zero wrong 256 none_wrong).fails (suc b) (omega arith) (omega arith)))
 
 -- every type is the one of its letter
-pub type_of-letter : (t : FieldType) → type_of (letter_of t) ≡ Is t
+pub type_of-letter : (t : FieldType) → type_of (letter_of t) ≡ Some t
 unfolding type_of
 type_of-letter Text = refl
 type_of-letter Latin = refl
@@ -149,13 +138,13 @@ type_of-letter NullField = refl
 type_of-letter Triplet = refl
 
 -- and a type that a letter has, has the letter
-letter_found : (b : ℕ) (ts : List FieldType) (t : FieldType) → find b ts ≡ Is t → letter_of t ≡ b
+letter_found : (b : ℕ) (ts : List FieldType) (t : FieldType) → find b ts ≡ Some t → letter_of t ≡ b
 letter_found b [] t e = clash (cc)
 letter_found b (u ∷ ts) t e =
     bool_cases (eqb b (letter_of u))
     (λ c. let w = rw c at e in let s : u ≡ t = cc in ap letter_of (sym s) ∙ sym (eqb-true b (letter_of u) c))
     (λ c. letter_found b ts t (rw c at e))
 
-pub letter_of_type : (b : ℕ) (t : FieldType) → type_of b ≡ Is t → letter_of t ≡ b
+pub letter_of_type : (b : ℕ) (t : FieldType) → type_of b ≡ Some t → letter_of t ≡ b
 unfolding type_of
 letter_of_type b t e = letter_found b types t e

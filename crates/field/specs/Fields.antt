@@ -1,5 +1,5 @@
 -- "Each field type knows its own width and null": what the functions of a field type give, by type.
-use Rattle.std.specs.Prelude.{Bool, true, false, cond, List, [], ◌∷◌, ℕ, negsuc, eqb, leb}
+use Rattle.std.specs.Prelude.{Bool, true, false, cond, List, [], ◌∷◌, ℕ, negsuc, eqb, leb, Option, Some, None}
 use Rattle.field.specs.Letters.{letter_t, letter_l, letter_f, letter_r, letter_s, letter_i, letter_c, letter_z, letter_b, letter_y, letter_d, letter_x, letter_k}
 use Rattle.field.specs.declared.FieldType.{FieldType}
 use Rattle.field.specs.declared.FieldType.TheVariants.{Text, Latin, Float, Double, Short, Integer, ShortPair, ShortTriple, DoublePair}
@@ -7,8 +7,6 @@ use Rattle.field.specs.declared.FieldType.TheVariants.{DoubleTriple, Date, NullF
 use Rattle.field.specs.declared.NullValue.{NullValue}
 use Rattle.field.specs.declared.NullValue.TheVariants.{Nothing, Number, NotANumber}
 use Rattle.field.specs.declared.Rule.{Rule}
-use Rattle.field.specs.declared.Lookup.{Lookup}
-use Rattle.field.specs.declared.Lookup.TheVariants.{Is, Unlisted}
 
 abbrev pub letter_of : FieldType → ℕ
 letter_of Text = letter_t
@@ -84,10 +82,14 @@ rule_of t = record { letter = letter_of t; width = width_of t; star = star_of t;
 abbrev pub types : List FieldType
 types = Text ∷ Latin ∷ Float ∷ Double ∷ Short ∷ Integer ∷ ShortPair ∷ ShortTriple ∷ DoublePair ∷ DoubleTriple ∷ Date ∷ NullField ∷ Triplet ∷ []
 
+-- the type of a letter, or that the letter is not listed
+abbrev pub Lookup : Type 0
+Lookup = Option FieldType
+
 -- the first of these types that has the letter
 abbrev pub find : ℕ → List FieldType → Lookup
-find b [] = Unlisted
-find b (t ∷ ts) = cond (eqb b (letter_of t)) (Is t) (find b ts)
+find b [] = None
+find b (t ∷ ts) = cond (eqb b (letter_of t)) (Some t) (find b ts)
 
 unfoldable pub type_of : ℕ → Lookup
 type_of b = find b types

@@ -1,12 +1,10 @@
 -- Document 01's table of field types, row by row in its order, and what it says of a letter.
-use Rattle.std.specs.Prelude.{◌≡◌, Bool, true, false, cond, List, [], ◌∷◌, ◌↔◌, ℕ, ◌≤◌, negsuc, eqb}
+use Rattle.std.specs.Prelude.{◌≡◌, Bool, true, false, cond, List, [], ◌∷◌, ◌↔◌, ℕ, ◌≤◌, negsuc, eqb, Some, None}
 use Rattle.field.specs.Letters.{letter_t, letter_l, letter_f, letter_r, letter_s, letter_i, letter_c, letter_z, letter_b, letter_y, letter_d, letter_x, letter_k}
-use Rattle.field.specs.Fields.{letter_of, width_of, star_of, null_of, count_right, most_count}
+use Rattle.field.specs.Fields.{Lookup, letter_of, width_of, star_of, null_of, count_right, most_count}
 use Rattle.field.specs.declared.FieldType.{FieldType}
 use Rattle.field.specs.declared.NullValue.{NullValue}
 use Rattle.field.specs.declared.NullValue.TheVariants.{Nothing, Number, NotANumber}
-use Rattle.field.specs.declared.Lookup.{Lookup}
-use Rattle.field.specs.declared.Lookup.TheVariants.{Is, Unlisted}
 
 -- the column "Bytes": so many for each element, or from the least to the most for one value
 pub data Bytes : Type 0 where
@@ -80,7 +78,7 @@ entry_in b (r ∷ rs) = cond (eqb b r.letter) (listed r) (entry_in b rs)
 
 -- a letter's type has the letter's row, and a letter that has no row has no type
 abbrev pub Right : Entry → Lookup → Type 0
-Right (listed r) (Is t) = Agrees r t
-Right (listed r) Unlisted = ⊥
-Right unlisted (Is t) = ⊥
-Right unlisted Unlisted = Unit {0}
+Right (listed r) (Some t) = Agrees r t
+Right (listed r) None = ⊥
+Right unlisted (Some t) = ⊥
+Right unlisted None = Unit {0}

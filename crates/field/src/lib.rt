@@ -1,59 +1,111 @@
 // Field types: each knows its letter, the width of its element in bytes, its null, and whether a star count is allowed.
 #![tactic(auto)]
 
-ghost use Rattle.std.specs.Prelude.{◌≡◌, ◌≤◌};
-ghost use Rattle.field.specs.Fields.{letter_of, width_of, widest, star_of, null_of, rule_of, type_of, is_integer, is_triplet, in_range, count_right};
+ghost use Rattle.std.specs.Prelude.{◌≡◌, ◌≤◌, Bool, ℕ};
+ghost use Rattle.field.specs.Fields.{letter_of, width_of, widest, star_of, null_of, rule_of, type_of, is_integer, is_triplet, count_right};
 ghost use Rattle.field.specs.Nulls.{short_is_null, integer_is_null, float_is_null, double_is_null};
+ghost use Rattle.field.specs.declared.FieldType.TheVariants as type;
+ghost use Rattle.field.specs.declared.NullValue.{NullValue};
 
 // The value of a field type that stands for none.
-#[derive(Clone, Copy)]
+#[derive(Clone, Copy, Debug, PartialEq, Eq)]
 pub enum NullValue {
     Nothing,
     Number(i32),
     NotANumber,
 }
 
+// What a field type knows.
+pub trait Known {
+    // The letter that a header has for the type.
+    const LETTER: u8;
+
+    // The bytes of one element.
+    const WIDTH: usize;
+
+    // Whether the count may be `*`.
+    const STAR: bool;
+
+    // The value that stands for none.
+    const NULL: NullValue;
+
+    ghost LETTER: { ℕ };
+
+    ghost WIDTH: { ℕ };
+
+    ghost STAR: { Bool };
+
+    ghost NULL: { NullValue };
+}
+
 // T: text.
 #[derive(Clone, Copy)]
 pub struct Text;
 
-impl Text {
-    pub const LETTER: u8 = b'T';
+impl Known for Text {
+    const LETTER: u8 = b'T';
 
-    pub const WIDTH: usize = 1;
+    const WIDTH: usize = 1;
 
-    pub const STAR: bool = true;
+    const STAR: bool = true;
 
-    pub const NULL: NullValue = NullValue::Nothing;
+    const NULL: NullValue = NullValue::Nothing;
+
+    ghost LETTER = { letter_of type.Text };
+
+    ghost WIDTH = { width_of type.Text };
+
+    ghost STAR = { star_of type.Text };
+
+    ghost NULL = { null_of type.Text };
 }
 
 // L: text in the alphabet Latin 1.
 #[derive(Clone, Copy)]
 pub struct Latin;
 
-impl Latin {
-    pub const LETTER: u8 = b'L';
+impl Known for Latin {
+    const LETTER: u8 = b'L';
 
-    pub const WIDTH: usize = 1;
+    const WIDTH: usize = 1;
 
-    pub const STAR: bool = true;
+    const STAR: bool = true;
 
-    pub const NULL: NullValue = NullValue::Nothing;
+    const NULL: NullValue = NullValue::Nothing;
+
+    ghost LETTER = { letter_of type.Latin };
+
+    ghost WIDTH = { width_of type.Latin };
+
+    ghost STAR = { star_of type.Latin };
+
+    ghost NULL = { null_of type.Latin };
 }
 
 // F: a float of four bytes.
 #[derive(Clone, Copy)]
 pub struct Float;
 
+impl Known for Float {
+    const LETTER: u8 = b'F';
+
+    const WIDTH: usize = 4;
+
+    const STAR: bool = false;
+
+    const NULL: NullValue = NullValue::NotANumber;
+
+    ghost LETTER = { letter_of type.Float };
+
+    ghost WIDTH = { width_of type.Float };
+
+    ghost STAR = { star_of type.Float };
+
+    ghost NULL = { null_of type.Float };
+}
+
+// Of its own width, as `Double` is: a trait for two bodies of one comparison each would be longer than both.
 impl Float {
-    pub const LETTER: u8 = b'F';
-
-    pub const WIDTH: usize = 4;
-
-    pub const STAR: bool = false;
-
-    pub const NULL: NullValue = NullValue::NotANumber;
-
     // The bit of the sign, and the pattern of infinity: exponent all ones, fraction zero.
     const SIGN: u32 = 0x8000_0000;
 
@@ -71,15 +123,26 @@ impl Float {
 #[derive(Clone, Copy)]
 pub struct Double;
 
+impl Known for Double {
+    const LETTER: u8 = b'R';
+
+    const WIDTH: usize = 8;
+
+    const STAR: bool = false;
+
+    const NULL: NullValue = NullValue::NotANumber;
+
+    ghost LETTER = { letter_of type.Double };
+
+    ghost WIDTH = { width_of type.Double };
+
+    ghost STAR = { star_of type.Double };
+
+    ghost NULL = { null_of type.Double };
+}
+
+// Of its own width, as `Float` is: a trait for two bodies of one comparison each would be longer than both.
 impl Double {
-    pub const LETTER: u8 = b'R';
-
-    pub const WIDTH: usize = 8;
-
-    pub const STAR: bool = false;
-
-    pub const NULL: NullValue = NullValue::NotANumber;
-
     // The bit of the sign, and the pattern of infinity: exponent all ones, fraction zero.
     const SIGN: u64 = 0x8000_0000_0000_0000;
 
@@ -97,15 +160,26 @@ impl Double {
 #[derive(Clone, Copy)]
 pub struct Short;
 
+impl Known for Short {
+    const LETTER: u8 = b'S';
+
+    const WIDTH: usize = 2;
+
+    const STAR: bool = false;
+
+    const NULL: NullValue = NullValue::Number(-32768);
+
+    ghost LETTER = { letter_of type.Short };
+
+    ghost WIDTH = { width_of type.Short };
+
+    ghost STAR = { star_of type.Short };
+
+    ghost NULL = { null_of type.Short };
+}
+
+// Of its own width, as `Integer` is: a trait for two bodies of one comparison each would be longer than both.
 impl Short {
-    pub const LETTER: u8 = b'S';
-
-    pub const WIDTH: usize = 2;
-
-    pub const STAR: bool = false;
-
-    pub const NULL: NullValue = NullValue::Number(-32768);
-
     // The bytes of null, as an unsigned number.
     pub const NULL_BITS: u16 = 0x8000;
 
@@ -120,15 +194,26 @@ impl Short {
 #[derive(Clone, Copy)]
 pub struct Integer;
 
+impl Known for Integer {
+    const LETTER: u8 = b'I';
+
+    const WIDTH: usize = 4;
+
+    const STAR: bool = false;
+
+    const NULL: NullValue = NullValue::Number(-2147483648);
+
+    ghost LETTER = { letter_of type.Integer };
+
+    ghost WIDTH = { width_of type.Integer };
+
+    ghost STAR = { star_of type.Integer };
+
+    ghost NULL = { null_of type.Integer };
+}
+
+// Of its own width, as `Short` is: a trait for two bodies of one comparison each would be longer than both.
 impl Integer {
-    pub const LETTER: u8 = b'I';
-
-    pub const WIDTH: usize = 4;
-
-    pub const STAR: bool = false;
-
-    pub const NULL: NullValue = NullValue::Number(-2147483648);
-
     // The bytes of null, as an unsigned number.
     pub const NULL_BITS: u32 = 0x8000_0000;
 
@@ -143,102 +228,158 @@ impl Integer {
 #[derive(Clone, Copy)]
 pub struct ShortPair;
 
-impl ShortPair {
-    pub const LETTER: u8 = b'C';
+impl Known for ShortPair {
+    const LETTER: u8 = b'C';
 
-    pub const WIDTH: usize = 8;
+    const WIDTH: usize = 8;
 
-    pub const STAR: bool = true;
+    const STAR: bool = true;
 
-    pub const NULL: NullValue = NullValue::Nothing;
+    const NULL: NullValue = NullValue::Nothing;
+
+    ghost LETTER = { letter_of type.ShortPair };
+
+    ghost WIDTH = { width_of type.ShortPair };
+
+    ghost STAR = { star_of type.ShortPair };
+
+    ghost NULL = { null_of type.ShortPair };
 }
 
 // Z: short coordinates of three parts.
 #[derive(Clone, Copy)]
 pub struct ShortTriple;
 
-impl ShortTriple {
-    pub const LETTER: u8 = b'Z';
+impl Known for ShortTriple {
+    const LETTER: u8 = b'Z';
 
-    pub const WIDTH: usize = 12;
+    const WIDTH: usize = 12;
 
-    pub const STAR: bool = true;
+    const STAR: bool = true;
 
-    pub const NULL: NullValue = NullValue::Nothing;
+    const NULL: NullValue = NullValue::Nothing;
+
+    ghost LETTER = { letter_of type.ShortTriple };
+
+    ghost WIDTH = { width_of type.ShortTriple };
+
+    ghost STAR = { star_of type.ShortTriple };
+
+    ghost NULL = { null_of type.ShortTriple };
 }
 
 // B: double coordinates of two parts.
 #[derive(Clone, Copy)]
 pub struct DoublePair;
 
-impl DoublePair {
-    pub const LETTER: u8 = b'B';
+impl Known for DoublePair {
+    const LETTER: u8 = b'B';
 
-    pub const WIDTH: usize = 16;
+    const WIDTH: usize = 16;
 
-    pub const STAR: bool = true;
+    const STAR: bool = true;
 
-    pub const NULL: NullValue = NullValue::Nothing;
+    const NULL: NullValue = NullValue::Nothing;
+
+    ghost LETTER = { letter_of type.DoublePair };
+
+    ghost WIDTH = { width_of type.DoublePair };
+
+    ghost STAR = { star_of type.DoublePair };
+
+    ghost NULL = { null_of type.DoublePair };
 }
 
 // Y: double coordinates of three parts.
 #[derive(Clone, Copy)]
 pub struct DoubleTriple;
 
-impl DoubleTriple {
-    pub const LETTER: u8 = b'Y';
+impl Known for DoubleTriple {
+    const LETTER: u8 = b'Y';
 
-    pub const WIDTH: usize = 24;
+    const WIDTH: usize = 24;
 
-    pub const STAR: bool = true;
+    const STAR: bool = true;
 
-    pub const NULL: NullValue = NullValue::Nothing;
+    const NULL: NullValue = NullValue::Nothing;
+
+    ghost LETTER = { letter_of type.DoubleTriple };
+
+    ghost WIDTH = { width_of type.DoubleTriple };
+
+    ghost STAR = { star_of type.DoubleTriple };
+
+    ghost NULL = { null_of type.DoubleTriple };
 }
 
 // D: a date.
 #[derive(Clone, Copy)]
 pub struct Date;
 
-impl Date {
-    pub const LETTER: u8 = b'D';
+impl Known for Date {
+    const LETTER: u8 = b'D';
 
-    pub const WIDTH: usize = 20;
+    const WIDTH: usize = 20;
 
-    pub const STAR: bool = false;
+    const STAR: bool = false;
 
-    pub const NULL: NullValue = NullValue::Nothing;
+    const NULL: NullValue = NullValue::Nothing;
+
+    ghost LETTER = { letter_of type.Date };
+
+    ghost WIDTH = { width_of type.Date };
+
+    ghost STAR = { star_of type.Date };
+
+    ghost NULL = { null_of type.Date };
 }
 
 // X: a null field, of no bytes.
 #[derive(Clone, Copy)]
 pub struct NullField;
 
-impl NullField {
-    pub const LETTER: u8 = b'X';
+impl Known for NullField {
+    const LETTER: u8 = b'X';
 
-    pub const WIDTH: usize = 0;
+    const WIDTH: usize = 0;
 
-    pub const STAR: bool = false;
+    const STAR: bool = false;
 
-    pub const NULL: NullValue = NullValue::Nothing;
+    const NULL: NullValue = NullValue::Nothing;
+
+    ghost LETTER = { letter_of type.NullField };
+
+    ghost WIDTH = { width_of type.NullField };
+
+    ghost STAR = { star_of type.NullField };
+
+    ghost NULL = { null_of type.NullField };
 }
 
 // K: a triplet id, which says its own length: it has no width of an element.
 #[derive(Clone, Copy)]
 pub struct Triplet;
 
-impl Triplet {
-    pub const LETTER: u8 = b'K';
+impl Known for Triplet {
+    const LETTER: u8 = b'K';
 
-    pub const WIDTH: usize = 0;
+    const WIDTH: usize = 0;
 
-    pub const STAR: bool = false;
+    const STAR: bool = false;
 
-    pub const NULL: NullValue = NullValue::Nothing;
+    const NULL: NullValue = NullValue::Nothing;
+
+    ghost LETTER = { letter_of type.Triplet };
+
+    ghost WIDTH = { width_of type.Triplet };
+
+    ghost STAR = { star_of type.Triplet };
+
+    ghost NULL = { null_of type.Triplet };
 }
 
 // The thirteen types.
-#[derive(Clone, Copy)]
+#[derive(Clone, Copy, Debug, PartialEq, Eq)]
 pub enum FieldType {
     Text,
     Latin,
@@ -255,28 +396,10 @@ pub enum FieldType {
     Triplet,
 }
 
-// The type of a letter.
-#[derive(Clone, Copy)]
-pub enum Lookup {
-    Is(FieldType),
-    Unlisted,
-}
-
 // A count that is a number is at most 65,535.
 pub const MOST_COUNT: u32 = 65535;
 
-// Whether a number may stand as a count.
-fn in_range(count: u32) -> bool
-    ensures { result ≡ in_range count }
-{
-    if count == 0 {
-        false
-    } else {
-        count <= MOST_COUNT
-    }
-}
-
-// What a type knows.
+// What a type knows, as values.
 #[derive(Clone, Copy)]
 struct Rule {
     letter: u8,
@@ -285,14 +408,14 @@ struct Rule {
     null: NullValue,
 }
 
-fn rule_of(letter: u8, width: usize, star: bool, null: NullValue) -> Rule
-    ensures { result ≡ record { letter = letter; width = width; star = star; null = null } }
+fn rule_of<K: Known>() -> Rule
+    ensures { result ≡ record { letter = K.LETTER; width = K.WIDTH; star = K.STAR; null = K.NULL } }
 {
     Rule {
-        letter: letter,
-        width: width,
-        star: star,
-        null: null,
+        letter: K::LETTER,
+        width: K::WIDTH,
+        star: K::STAR,
+        null: K::NULL,
     }
 }
 
@@ -303,54 +426,19 @@ impl FieldType {
         ensures width_le_widest { result.width ≤ widest }
     {
         match self {
-            FieldType::Text => rule_of(Text::LETTER, Text::WIDTH, Text::STAR, Text::NULL),
-            FieldType::Latin => rule_of(Latin::LETTER, Latin::WIDTH, Latin::STAR, Latin::NULL),
-            FieldType::Float => rule_of(Float::LETTER, Float::WIDTH, Float::STAR, Float::NULL),
-            FieldType::Double => rule_of(Double::LETTER, Double::WIDTH, Double::STAR, Double::NULL),
-            FieldType::Short => rule_of(Short::LETTER, Short::WIDTH, Short::STAR, Short::NULL),
-            FieldType::Integer => rule_of(
-                Integer::LETTER,
-                Integer::WIDTH,
-                Integer::STAR,
-                Integer::NULL,
-            ),
-            FieldType::ShortPair => rule_of(
-                ShortPair::LETTER,
-                ShortPair::WIDTH,
-                ShortPair::STAR,
-                ShortPair::NULL,
-            ),
-            FieldType::ShortTriple => rule_of(
-                ShortTriple::LETTER,
-                ShortTriple::WIDTH,
-                ShortTriple::STAR,
-                ShortTriple::NULL,
-            ),
-            FieldType::DoublePair => rule_of(
-                DoublePair::LETTER,
-                DoublePair::WIDTH,
-                DoublePair::STAR,
-                DoublePair::NULL,
-            ),
-            FieldType::DoubleTriple => rule_of(
-                DoubleTriple::LETTER,
-                DoubleTriple::WIDTH,
-                DoubleTriple::STAR,
-                DoubleTriple::NULL,
-            ),
-            FieldType::Date => rule_of(Date::LETTER, Date::WIDTH, Date::STAR, Date::NULL),
-            FieldType::NullField => rule_of(
-                NullField::LETTER,
-                NullField::WIDTH,
-                NullField::STAR,
-                NullField::NULL,
-            ),
-            FieldType::Triplet => rule_of(
-                Triplet::LETTER,
-                Triplet::WIDTH,
-                Triplet::STAR,
-                Triplet::NULL,
-            ),
+            FieldType::Text => rule_of::<Text>(),
+            FieldType::Latin => rule_of::<Latin>(),
+            FieldType::Float => rule_of::<Float>(),
+            FieldType::Double => rule_of::<Double>(),
+            FieldType::Short => rule_of::<Short>(),
+            FieldType::Integer => rule_of::<Integer>(),
+            FieldType::ShortPair => rule_of::<ShortPair>(),
+            FieldType::ShortTriple => rule_of::<ShortTriple>(),
+            FieldType::DoublePair => rule_of::<DoublePair>(),
+            FieldType::DoubleTriple => rule_of::<DoubleTriple>(),
+            FieldType::Date => rule_of::<Date>(),
+            FieldType::NullField => rule_of::<NullField>(),
+            FieldType::Triplet => rule_of::<Triplet>(),
         }
     }
 
@@ -383,25 +471,26 @@ impl FieldType {
         self.rule().null
     }
 
-    // The type of a letter, or that the letter is not listed.
-    pub fn of(letter: u8) -> Lookup
+    // The type of a letter, if the letter is listed.
+    #[tactic(auto, unfolding(crate::specs::Fields::type_of))]
+    pub fn of(letter: u8) -> Option<FieldType>
         ensures { result ≡ type_of letter }
     {
         match letter {
-            Text::LETTER => Lookup::Is(FieldType::Text),
-            Latin::LETTER => Lookup::Is(FieldType::Latin),
-            Float::LETTER => Lookup::Is(FieldType::Float),
-            Double::LETTER => Lookup::Is(FieldType::Double),
-            Short::LETTER => Lookup::Is(FieldType::Short),
-            Integer::LETTER => Lookup::Is(FieldType::Integer),
-            ShortPair::LETTER => Lookup::Is(FieldType::ShortPair),
-            ShortTriple::LETTER => Lookup::Is(FieldType::ShortTriple),
-            DoublePair::LETTER => Lookup::Is(FieldType::DoublePair),
-            DoubleTriple::LETTER => Lookup::Is(FieldType::DoubleTriple),
-            Date::LETTER => Lookup::Is(FieldType::Date),
-            NullField::LETTER => Lookup::Is(FieldType::NullField),
-            Triplet::LETTER => Lookup::Is(FieldType::Triplet),
-            _ => Lookup::Unlisted,
+            Text::LETTER => Some(FieldType::Text),
+            Latin::LETTER => Some(FieldType::Latin),
+            Float::LETTER => Some(FieldType::Float),
+            Double::LETTER => Some(FieldType::Double),
+            Short::LETTER => Some(FieldType::Short),
+            Integer::LETTER => Some(FieldType::Integer),
+            ShortPair::LETTER => Some(FieldType::ShortPair),
+            ShortTriple::LETTER => Some(FieldType::ShortTriple),
+            DoublePair::LETTER => Some(FieldType::DoublePair),
+            DoubleTriple::LETTER => Some(FieldType::DoubleTriple),
+            Date::LETTER => Some(FieldType::Date),
+            NullField::LETTER => Some(FieldType::NullField),
+            Triplet::LETTER => Some(FieldType::Triplet),
+            _ => None,
         }
     }
 
@@ -409,26 +498,27 @@ impl FieldType {
     pub fn is_integer(self) -> bool
         ensures { result ≡ is_integer self }
     {
-        self.letter() == Integer::LETTER
+        self == FieldType::Integer
     }
 
     // Whether it is type K, whose values say their own length.
     pub fn is_triplet(self) -> bool
         ensures { result ≡ is_triplet self }
     {
-        self.letter() == Triplet::LETTER
+        self == FieldType::Triplet
     }
 
     // Whether a count is right for the type: `*` where it is allowed, a number in range where `*` is, and else 1.
+    #[tactic(auto, unfolding(crate::specs::Fields::count_right))]
     pub fn count_right(self, star: bool, count: u32) -> bool
         ensures { result ≡ count_right self star count }
     {
         if star {
-            return self.star();
+            self.star()
+        } else if self.star() {
+            (1..=MOST_COUNT).contains(&count)
+        } else {
+            count == 1
         }
-        if self.star() {
-            return in_range(count);
-        }
-        count == 1
     }
 }

@@ -1,15 +1,15 @@
 -- The machine's test of a byte says what the paper says of the bytes of a field.
 use mathlib.Core.Path.{◌≡◌}
-use mathlib.Core.Bool.{true, false, cond, not}
+use mathlib.Core.Bool.{true, not}
 use mathlib.Core.Logic.{◌⊎◌, inl, inr, ◌↔◌}
 use Prim.Native.Nat.{ℕ, ◌≤◌, ◌<◌}
 use native.Mathlib.Omega.{arith}
 use lib.ListN.{length, get_or}
+use Rattle.std.proofs.lemmas.Bool.Decides.{nat_tests}
 use mathlib.Core.List.{List}
-use lib.Dec.{ltb, leb, eqb}
-use borrow.Author.Tests.{lt-ltb, le-ltb, le-leb, eq-eqb, ne_eqb, ltb-true, ltb-false, leb-true, eqb-true, eqb-false, not-true}
-use Rattle.laws.proofs.TestLaws.{both_true, neither_true}
-use Rattle.laws.proofs.LowestLaws.{bool_cases}
+use lib.Dec.{ltb, eqb}
+use borrow.Author.Tests.{lt-ltb, eq-eqb, ne_eqb, ltb-true, eqb-false, not-true}
+use Rattle.laws.proofs.TestLaws.{both_true}
 use Rattle.grammar.specs.Words as words
 use Rattle.grammar.specs.Words.{semicolon, colon, comma, equals, Printable, Digit, Text}
 use Rattle.grammar.specs.Fields.{rule, printable, letter, plain, digit, holds, allowed}
@@ -29,19 +29,11 @@ Holds Digits n b = Digit b × (n ≡ 0 → b ≡ 48 → ⊥)
 
 to_printable : (b : ℕ) → Printable b → printable b ≡ true
 unfolding printable
-to_printable b h = simp (le-ltb b 32 h.0, le-leb b 126 h.1)
+to_printable b h = grind (arith, nat_tests)
 
 to_digit : (n b : ℕ) → Digit b → (n ≡ 0 → b ≡ 48 → ⊥) → digit n b ≡ true
 unfolding digit
-to_digit n b h f =
-    bool_cases (eqb n 0)
-    (λ t.
-    let l : 49 ≤ b = more (f (eqb-true n 0 t)) in
-    simp (t, le-leb 49 b l, le-leb b 57 h.1))
-    (λ t. simp (t, le-leb 48 b h.0, le-leb b 57 h.1))
-  where
-    more : (b ≡ 48 → ⊥) → 49 ≤ b
-    more g = bool_cases (eqb b 48) (λ t. absurd (g (eqb-true b 48 t))) (λ t. let z : b ≡ 48 → ⊥ = eqb-false b 48 t in omega arith)
+to_digit n b h f = grind (arith, nat_tests)
 
 to_allowed : (k : Class) (n b : ℕ) → Holds k n b → allowed k n b ≡ true
 unfolding allowed holds letter plain
@@ -65,37 +57,26 @@ to_allowed Digits n b h =
 
 of_printable : (b : ℕ) → printable b ≡ true → Printable b
 unfolding printable
-of_printable b e = let h = neither_true (ltb b 32) (leb b 126) e in (ltb-false b 32 h.0, leb-true b 126 h.1)
+of_printable b e = (grind (arith, nat_tests), grind (arith, nat_tests))
 
 of_letter : (b : ℕ) → letter b ≡ true → (b ≡ 76) ⊎ (b ≡ 77)
 unfolding letter
-of_letter b e = bool_cases (eqb b 76) (λ t. inl (eqb-true b 76 t)) (λ t. inr (eqb-true b 77 (rw t at e)))
+of_letter b e = grind (arith, nat_tests)
 
 of_plain : (b : ℕ) → Printable b → plain b ≡ true → words.Plain b
 unfolding plain
 of_plain b p e =
-    let h = neither_true (eqb b semicolon) (cond (eqb b colon) false (cond (eqb b comma) false (not (eqb b equals)))) e in
-    let i = neither_true (eqb b colon) (cond (eqb b comma) false (not (eqb b equals))) h.1 in
-    let j = neither_true (eqb b comma) (not (eqb b equals)) i.1 in
     record {
       printable = p;
-      no_semicolon = eqb-false b semicolon h.0;
-      no_colon = eqb-false b colon i.0;
-      no_comma = eqb-false b comma j.0;
-      no_equals = eqb-false b equals (not-true (eqb b equals) j.1);
+      no_semicolon = λ z. grind (arith, nat_tests);
+      no_colon = λ z. grind (arith, nat_tests);
+      no_comma = λ z. grind (arith, nat_tests);
+      no_equals = λ z. grind (arith, nat_tests);
     }
 
 of_digit : (n b : ℕ) → digit n b ≡ true → Digit b × (n ≡ 0 → b ≡ 48 → ⊥)
 unfolding digit
-of_digit n b e =
-    bool_cases (eqb n 0)
-    (λ t.
-    let h = both_true (leb 49 b) (leb b 57) (rw t at e) in
-    let l = leb-true 49 b h.0 in
-    ((omega arith, leb-true b 57 h.1), λ z q. omega arith))
-    (λ t.
-    let h = both_true (leb 48 b) (leb b 57) (rw t at e) in
-    ((leb-true 48 b h.0, leb-true b 57 h.1), λ z q. eqb-false n 0 t z))
+of_digit n b e = ((grind (arith, nat_tests), grind (arith, nat_tests)), λ z q. grind (arith, nat_tests))
 
 of_allowed : (k : Class) (n b : ℕ) → allowed k n b ≡ true → Holds k n b
 unfolding allowed holds

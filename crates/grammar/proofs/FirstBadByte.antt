@@ -14,15 +14,14 @@ use Rattle.laws.proofs.MachineLaws.{stuck_first, ended_continues}
 use Rattle.laws.proofs.TestLaws.{clash}
 use Rattle.grammar.specs.Words.{InGrammar, Begins, FirstBad, EndsTooSoon}
 use Rattle.grammar.specs.Fields.{rule}
-use Rattle.grammar.specs.Scan.{machine, start, finish, answer, scan_of}
+use Rattle.grammar.specs.Scan.{machine, start, Scan, finish, answer, scan_of}
 use Rattle.grammar.specs.declared.Special.{Special}
 use Rattle.grammar.specs.declared.Special.TheVariants.{Usual, ColumnsMayEnd, StarMayStand, ColonMayStand, ColumnIsWhole, TextIsWhole}
 use Rattle.grammar.specs.declared.Spot.{Spot}
-use Rattle.grammar.specs.declared.Scan.{Scan}
-use Rattle.grammar.specs.declared.Scan.TheVariants.{Columns, BadByte}
+use Rattle.std.specs.Prelude.{Ok, Err}
 use Rattle.grammar.proofs.PrintIsRead.{text_in}
 use Rattle.grammar.proofs.ReadIsPrint.{text_out}
-use Rattle.grammar.proofs.SpotsGoOn.{Whole, Ok, ok_keeps, live}
+use Rattle.grammar.proofs.SpotsGoOn.{Whole, Fits, fits_keeps, live}
 use Rattle.grammar.proofs.GrammarExact.{accepted_exactly}
 
 -- ---- some text of the grammar begins so, exactly when the machine can go on
@@ -47,7 +46,7 @@ bad_out s i f =
       with_it = λ b. f.with_it (begins_in (take (suc i) s) b);
     }
 
-finish-says : (len : ℕ) (k : Special) (cols i : ℕ) → finish len k cols ≡ BadByte i → i ≡ len
+finish-says : (len : ℕ) (k : Special) (cols i : ℕ) → finish len k cols ≡ Err i → i ≡ len
 finish-says len TextIsWhole cols i e = clash (cc)
 finish-says len Usual cols i e = cc
 finish-says len ColumnsMayEnd cols i e = cc
@@ -55,20 +54,20 @@ finish-says len StarMayStand cols i e = cc
 finish-says len ColonMayStand cols i e = cc
 finish-says len ColumnIsWhole cols i e = cc
 
-from_run : (s : List ℕ) (i : ℕ) → (InGrammar s → ⊥) → (o : End Spot) → run machine s start 0 ≡ o → answer (length s) o ≡ BadByte i → BadPlace s i
+from_run : (s : List ℕ) (i : ℕ) → (InGrammar s → ⊥) → (o : End Spot) → run machine s start 0 ≡ o → answer (length s) o ≡ Err i → BadPlace s i
 from_run s i no_reading (stuck j) r e =
-    let b = stuck_first machine Whole Ok ok_keeps live s start 0 j (omega arith) r in
+    let b = stuck_first machine Whole Fits fits_keeps live s start 0 j (omega arith) r in
     let same : j ≡ i = cc in
     let q : b.0 ≡ i = omega (arith, b.1) in
     inl (subst (λ (k : ℕ). FirstBad s k) q (bad_out s b.0 b.2))
 from_run s i no_reading (ended st) r e =
-    let c = ended_continues machine Whole Ok ok_keeps live s start 0 st (omega arith) r in
+    let c = ended_continues machine Whole Fits fits_keeps live s start 0 st (omega arith) r in
     inr (finish-says (length s) (rule st.field).special st.cols i e, record { begins = begins_out s c.1; none = no_reading })
 
-not_both : (s : List ℕ) (i : ℕ) → scan_of s ≡ BadByte i → InGrammar s → ⊥
+not_both : (s : List ℕ) (i : ℕ) → scan_of s ≡ Err i → InGrammar s → ⊥
 not_both s i e g = let a = (accepted_exactly s).1 g in clash (cc (e, a.1))
 
-says : (s : List ℕ) (i : ℕ) → scan_of s ≡ BadByte i → BadPlace s i
+says : (s : List ℕ) (i : ℕ) → scan_of s ≡ Err i → BadPlace s i
 unfolding scan_of
 says s i e = from_run s i (not_both s i e) (run machine s start 0) refl e
 
@@ -99,13 +98,13 @@ no_reading : (s : List ℕ) (i : ℕ) → BadPlace s i → InGrammar s → ⊥
 no_reading s i (inl f) g = f.with_it (begins_shorter s (suc i) (whole_begins s g))
 no_reading s i (inr e) g = e.1.none g
 
-gives : (s : List ℕ) (i : ℕ) → BadPlace s i → scan_of s ≡ BadByte i
+gives : (s : List ℕ) (i : ℕ) → BadPlace s i → scan_of s ≡ Err i
 gives s i p = by (scan_of s) refl
   where
-    by : (r : Scan) → scan_of s ≡ r → scan_of s ≡ BadByte i
-    by (Columns n) e = absurd (no_reading s i p ((accepted_exactly s).0 (n, e)))
-    by (BadByte j) e = e ∙ ap (λ (k : ℕ). BadByte k) (one_place s j i (says s j e) p)
+    by : (r : Scan) → scan_of s ≡ r → scan_of s ≡ Err i
+    by (Ok n) e = absurd (no_reading s i p ((accepted_exactly s).0 (n, e)))
+    by (Err j) e = e ∙ ap (λ (k : ℕ). Err k) (one_place s j i (says s j e) p)
 
 -- the scan gives place i exactly when byte i is the first that cannot continue, or i is the text's length and the text ends too soon
-pub first_bad_byte : (s : List ℕ) (i : ℕ) → (scan_of s ≡ BadByte i) ↔ BadPlace s i
+pub first_bad_byte : (s : List ℕ) (i : ℕ) → (scan_of s ≡ Err i) ↔ BadPlace s i
 first_bad_byte s i = (says s i, gives s i)

@@ -1,11 +1,13 @@
 -- The ways on from a spot: one more byte of the field, its closer, the end of the columns, a star, a colon without its comma; and no way else.
 use mathlib.Core.Path.{◌≡◌, refl}
-use mathlib.Core.Bool.{Bool, true, false, cond}
+use mathlib.Core.Bool.{Bool, true, false}
 use Prim.Native.Nat.{ℕ, ◌+◌, ◌≤◌, ◌<◌}
-use lib.Dec.{ltb, leb, eqb}
-use borrow.Author.Tests.{lt-ltb, le-leb, eq-eqb, ltb-true, leb-true, eqb-true}
+use lib.Dec.{ltb, eqb}
+use native.Mathlib.Omega.{arith}
+use Rattle.std.proofs.lemmas.Bool.Decides.{nat_tests}
+use borrow.Author.Tests.{lt-ltb}
 use Rattle.laws.specs.Machine.{Next, go, stop}
-use Rattle.laws.proofs.TestLaws.{both_true, cond_same, clash}
+use Rattle.laws.proofs.TestLaws.{cond_same, clash}
 use Rattle.grammar.specs.Words.{semicolon, colon, star}
 use Rattle.grammar.specs.Fields.{rule, printable, letter, plain, digit, holds, allowed}
 use Rattle.grammar.specs.Scan.{spot, takes, closes, ends, stars, lacks_comma, move, machine}
@@ -72,7 +74,7 @@ not_own f n = rw (bars f n) (cond_same (ltb n (rule f).most) false)
 
 own : (f : Field) (n : ℕ) → (rule f).least ≤ n → closes f n (rule f).closer ≡ true
 unfolding closes
-own f n h = simp (eq-eqb (rule f).closer (rule f).closer refl, le-leb (rule f).least n h)
+own f n h = grind (arith, nat_tests)
 
 -- the byte that closes a field, after enough bytes of it
 pub closing : (f : Field) (cols n : ℕ) → (rule f).least ≤ n → machine (spot f n cols) (rule f).closer ≡ go (closed f cols)
@@ -86,8 +88,7 @@ ending cols n h = colon_step Narrative n cols colon (cond_same (ltb n 12) false)
 pub closes_says : (f : Field) (n b : ℕ) → closes f n b ≡ true → (b ≡ (rule f).closer) × ((rule f).least ≤ n)
 unfolding closes
 closes_says f n b e =
-    let h = both_true (eqb b (rule f).closer) (leb (rule f).least n) e in
-    (eqb-true b (rule f).closer h.0, leb-true (rule f).least n h.1)
+    (grind (arith, nat_tests), grind (arith, nat_tests))
 
 -- ---- the other ways
 
@@ -110,9 +111,12 @@ pub record Bare (k : Special) (n b : ℕ) : Type 0 where
 pub ends_says : (k : Special) (n cols b : ℕ) → ends k n cols b ≡ true → Ends k n cols b
 unfolding ends
 ends_says ColumnsMayEnd n cols b e =
-    let h = both_true (eqb b semicolon) (cond (eqb n 0) (ltb 0 cols) false) e in
-    let i = both_true (eqb n 0) (ltb 0 cols) h.1 in
-    record { special = refl; byte = eqb-true b semicolon h.0; at-start = eqb-true n 0 i.0; some = ltb-true 0 cols i.1 }
+    record {
+      special = refl;
+      byte = grind (arith, nat_tests);
+      at-start = grind (arith, nat_tests);
+      some = grind (arith, nat_tests);
+    }
 ends_says Usual n cols b e = clash (cc)
 ends_says StarMayStand n cols b e = clash (cc)
 ends_says ColonMayStand n cols b e = clash (cc)
@@ -122,8 +126,7 @@ ends_says TextIsWhole n cols b e = clash (cc)
 pub stars_says : (k : Special) (n b : ℕ) → stars k n b ≡ true → Stars k n b
 unfolding stars
 stars_says StarMayStand n b e =
-    let h = both_true (eqb b star) (eqb n 0) e in
-    record { special = refl; byte = eqb-true b star h.0; at-start = eqb-true n 0 h.1 }
+    record { special = refl; byte = grind (arith, nat_tests); at-start = grind (arith, nat_tests) }
 stars_says Usual n b e = clash (cc)
 stars_says ColumnsMayEnd n b e = clash (cc)
 stars_says ColonMayStand n b e = clash (cc)
@@ -133,8 +136,7 @@ stars_says TextIsWhole n b e = clash (cc)
 pub lacks_says : (k : Special) (n b : ℕ) → lacks_comma k n b ≡ true → Bare k n b
 unfolding lacks_comma
 lacks_says ColonMayStand n b e =
-    let h = both_true (eqb b colon) (ltb 0 n) e in
-    record { special = refl; byte = eqb-true b colon h.0; some = ltb-true 0 n h.1 }
+    record { special = refl; byte = grind (arith, nat_tests); some = grind (arith, nat_tests) }
 lacks_says Usual n b e = clash (cc)
 lacks_says ColumnsMayEnd n b e = clash (cc)
 lacks_says StarMayStand n b e = clash (cc)

@@ -4,15 +4,14 @@ use mathlib.Core.Bool.{true}
 use mathlib.Core.List.{List}
 use Prim.Native.Nat.{ℕ, zero, suc, ◌+◌, ◌≤◌, ◌<◌}
 use native.Mathlib.Omega.{arith}
-use native.Mathlib.Nat.{add-zero, add-suc, lt_irrefl}
+use native.Mathlib.Nat.{add-zero, add-suc}
 use native.Mathlib.Numerals.{add-one}
-use lib.Dec.{ltb, eqb}
+use Rattle.std.proofs.lemmas.Bool.Decides.{nat_tests}
 use lib.ListN.{length, get_or}
 use borrow.Author.Count.{below_none, below_more}
-use borrow.Author.Tests.{lt-ltb, ltb-true, eqb-true}
+use borrow.Author.Tests.{lt-ltb}
 use Rattle.laws.specs.Machine.{go}
 use Rattle.laws.proofs.MachineLaws.{run_next, run_end}
-use Rattle.laws.proofs.TestLaws.{both_true}
 use Rattle.grammar.specs.Words.{semicolon, colon, star}
 use Rattle.grammar.specs.Fields.{rule, printable, plain, digit, holds, allowed}
 use Rattle.grammar.specs.Scan.{spot, takes, closes, ends, stars, machine, start, answer, scan_of}
@@ -24,14 +23,13 @@ use Rattle.grammar.specs.declared.Class.{Class}
 use Rattle.grammar.specs.declared.Class.TheVariants.{Plain}
 use Rattle.grammar.specs.declared.Rule.{Rule}
 use Rattle.grammar.specs.declared.Spot.{Spot}
-use Rattle.grammar.specs.declared.Scan.TheVariants.{Columns}
+use Rattle.std.specs.Prelude.{Ok}
 use Rattle.grammar.proofs.MachineMoves.{take_step, end_step, star_step, closing, ending}
 
 pub stands_says : (s : List ℕ) (i b : ℕ) → stands s i b ≡ true → (i < length s) × (get_or s i 0 ≡ b)
 unfolding stands
 stands_says s i b e =
-    let h = both_true (ltb i (length s)) (eqb (get_or s i 0) b) e in
-    (ltb-true i (length s) h.0, eqb-true (get_or s i 0) b h.1)
+    (grind (arith, nat_tests), grind (arith, nat_tests))
 
 module _ (s : List ℕ) where
   -- all of the text is left
@@ -100,61 +98,39 @@ module _ (s : List ℕ) where
     unfolding takes allowed printable holds plain closes ends
     over some = end_step Name 0 cols semicolon refl refl (lt-ltb 0 cols some)
 
-    nothing_left : i + 1 ≡ length s → rest_of s (spot TextEnd 0 cols) (i + 1) ≡ Columns cols
+    nothing_left : i + 1 ≡ length s → rest_of s (spot TextEnd 0 cols) (i + 1) ≡ Ok cols
     unfolding rest_of
     nothing_left last = rw (run_end machine s (spot TextEnd 0 cols) (i + 1) (omega (arith, last)))
 
-    pub rest_end : stands s i semicolon ≡ true → 0 < cols → i + 1 ≡ length s → rest_of s (spot Name 0 cols) i ≡ Columns cols
+    pub rest_end : stands s i semicolon ≡ true → 0 < cols → i + 1 ≡ length s → rest_of s (spot Name 0 cols) i ≡ Ok cols
     rest_end e some last =
         let h = stands_says s i semicolon e in
         rest_next (spot Name 0 cols) (spot TextEnd 0 cols) i h.0 (rw h.1 (over some)) ∙ nothing_left last
 
   -- ---- the ways past
 
-  pub past_none : {i : ℕ} {a b : ℕ → Spot} → Past s i 0 a b
-  past_none = record { within = omega arith; further = λ z. absurd (lt_irrefl 0 z); same = λ z. absurd (lt_irrefl 0 z) }
-
-  pub past_field : (f : Field) {u : Rule} {i n : ℕ} (r : ℕ) → u ≡ rule f → Run s u.holds u.most i n
-      → (0 < r → Shut s i n u.least u.closer r) → Past s i r (spot f 0) (closed f)
-  past_field f zero e b h = past_none
-  past_field f {u} {i} {n} (suc r) e b h =
-      let z = h (omega arith) in
-      record {
-        within = z.within;
-        further = λ _. omega (arith, z.place);
-        same = λ _ cols. rest_word f (rule f).closer (closed f cols) cols i n (suc r) (closing f cols) (rw e at b) (rw e at z);
-      }
-
-  pub past_plain : (f : Field) {u : Rule} {i n : ℕ} (r : ℕ) → u ≡ rule f → (rule f).holds ≡ Plain → Run s Plain u.most i n
-      → (0 < r → Shut s i n u.least u.closer r) → Past s i r (spot f 0) (closed f)
-  past_plain f r e p b = past_field f r e (rw (e, p) (rw e at b))
-
-  -- a column's last name and a colon without its comma
-  pub past_bare : {u : Rule} {i n : ℕ} (r : ℕ) → u ≡ rule Narrative → Run s Plain u.most i n → (0 < r → Shut s i n u.least colon r)
-      → Past s i r (spot Narrative 0) (λ cols. spot Name 0 (cols + 1))
-  past_bare zero e b h = past_none
-  past_bare {u} {i} {n} (suc r) e b h =
-      let z = h (omega arith) in
-      record {
-        within = z.within;
-        further = λ _. omega (arith, z.place);
-        same = λ _ cols. rest_word Narrative colon (spot Name 0 (cols + 1)) cols i n (suc r) (ending cols) (rw e at b) (rw e at z);
-      }
-
-  pub past_star : (i : ℕ) → stands s i star ≡ true → Past s i (i + 1) (spot Numeral 0) (spot AfterStar 0)
-  past_star i e = record { within = omega (arith, (stands_says s i star e).0); further = λ z. omega arith; same = λ z cols. rest_star cols i e }
-
-  pub past_both : {i q r : ℕ} {a b c : ℕ → Spot} → Past s i q a b → (0 < r → 0 < q) → Past s q r b c → Past s i r a c
-  past_both f g h = record {
-    within = h.within;
-    further = λ z. omega (arith, f.further (g z), h.further z);
-    same = λ z cols. f.same (g z) cols ∙ h.same z cols;
+  pub past_field : (f : Field) {u : Rule} {k : Class} {i n r : ℕ} → u ≡ rule f → (rule f).holds ≡ k → Run s k u.most i n
+      → Shut s i n u.least u.closer r → Past s i r (spot f 0) (closed f)
+  past_field f {u} {k} {i} {n} {r} e p b z = record {
+    within = z.within;
+    further = omega (arith, z.place);
+    same = λ cols. rest_word f (rule f).closer (closed f cols) cols i n r (closing f cols) (rw p (rw e at b)) (rw e at z);
   }
 
-  -- the same, where each leads to 0 from 0
-  pub then : {i q r : ℕ} {a b c : ℕ → Spot} → (0 < q → 0 < i) × Past s i q a b → (0 < r → 0 < q) × Past s q r b c
-      → (0 < r → 0 < i) × Past s i r a c
-  then f g = (λ z. f.0 (g.0 z), past_both f.1 g.0 g.1)
+  -- a column's last name and a colon without its comma
+  pub past_bare : {u : Rule} {i n r : ℕ} → u ≡ rule Narrative → Run s Plain u.most i n → Shut s i n u.least colon r
+      → Past s i r (spot Narrative 0) (λ cols. spot Name 0 (cols + 1))
+  past_bare {u} {i} {n} {r} e b z = record {
+    within = z.within;
+    further = omega (arith, z.place);
+    same = λ cols. rest_word Narrative colon (spot Name 0 (cols + 1)) cols i n r (ending cols) (rw e at b) (rw e at z);
+  }
+
+  pub past_star : (i : ℕ) → stands s i star ≡ true → Past s i (i + 1) (spot Numeral 0) (spot AfterStar 0)
+  past_star i e = record { within = omega (arith, (stands_says s i star e).0); further = omega arith; same = λ cols. rest_star cols i e }
+
+  pub past_both : {i q r : ℕ} {a b c : ℕ → Spot} → Past s i q a b → Past s q r b c → Past s i r a c
+  past_both f g = record { within = g.within; further = omega (arith, f.further, g.further); same = λ cols. f.same cols ∙ g.same cols }
 
   -- ---- columns counted
 
@@ -166,23 +142,23 @@ module _ (s : List ℕ) where
     pub same : rest_of s (spot Name 0 cols) at ≡ scan_of s
 
   abbrev pub PastColumn : ℕ → ℕ → Type 0
-  PastColumn i r = (0 < r → 0 < i) × Past s i r (spot Name 0) (λ cols. spot Name 0 (cols + 1))
+  PastColumn i r = Past s i r (spot Name 0) (λ cols. spot Name 0 (cols + 1))
 
-  pub counted_first : {t r : ℕ} → Past s 0 t (spot OrderLetter 0) (spot Name 0) → PastColumn t r → 0 < r → Counted r 1
-  counted_first f g z = record {
-    within = g.1.within;
-    fewer = omega (arith, g.0 z, g.1.further z);
+  pub counted_first : {t r : ℕ} → Past s 0 t (spot OrderLetter 0) (spot Name 0) → PastColumn t r → Counted r 1
+  counted_first f g = record {
+    within = g.within;
+    fewer = omega (arith, f.further, g.further);
     some = omega arith;
-    same = sym (f.same (g.0 z) 0 ∙ g.1.same z 0) ∙ rest_all;
+    same = sym (f.same 0 ∙ g.same 0) ∙ rest_all;
   }
 
-  pub counted_more : {i r cols : ℕ} → Counted i cols → PastColumn i r → 0 < r → Counted r (cols + 1)
-  counted_more {i} {r} {cols} k g z = record {
-    within = g.1.within;
-    fewer = omega (arith, k.fewer, g.1.further z);
+  pub counted_more : {i r cols : ℕ} → Counted i cols → PastColumn i r → Counted r (cols + 1)
+  counted_more {i} {r} {cols} k g = record {
+    within = g.within;
+    fewer = omega (arith, k.fewer, g.further);
     some = omega arith;
-    same = sym (g.1.same z cols) ∙ k.same;
+    same = sym (g.same cols) ∙ k.same;
   }
 
-  pub counted_all : {i cols : ℕ} → Counted i cols → stands s i semicolon ≡ true → i + 1 ≡ length s → scan_of s ≡ Columns cols
+  pub counted_all : {i cols : ℕ} → Counted i cols → stands s i semicolon ≡ true → i + 1 ≡ length s → scan_of s ≡ Ok cols
   counted_all {i} {cols} k e last = sym k.same ∙ rest_end cols i e k.some last

@@ -8,13 +8,12 @@ use mathlib.Core.Bool.{Bool, true, false, cond}
 use Prim.Native.Nat.{ℕ, ◌+◌, ◌≤◌}
 use native.Mathlib.Omega.{arith}
 use Rattle.grammar.specs.Fields.{rule}
-use Rattle.grammar.specs.Scan.{takes, closes, ends, stars, lacks_comma, columns_after, move, machine, start, finish, answer, scan_of}
+use Rattle.grammar.specs.Scan.{takes, closes, ends, stars, lacks_comma, columns_after, Move, move, machine, start, finish, answer, scan_of}
 use Rattle.grammar.specs.declared.Special.{Special}
 use Rattle.grammar.specs.declared.Special.TheVariants.{Usual, ColumnsMayEnd, StarMayStand, ColonMayStand, ColumnIsWhole, TextIsWhole}
 use Rattle.grammar.specs.declared.Spot.{Spot}
-use Rattle.grammar.specs.declared.Move.{Move}
-use Rattle.grammar.specs.declared.Move.TheVariants.{To, Stop}
-use Rattle.grammar.specs.declared.Scan.TheVariants.{BadByte}
+use Rattle.std.specs.Prelude.{Some, None}
+use Rattle.std.specs.Prelude.{Err}
 
 -- what holds of a spot after at most i bytes
 pub record Bound (i : ℕ) (s : Spot) : Type 0 where
@@ -22,8 +21,8 @@ pub record Bound (i : ℕ) (s : Spot) : Type 0 where
   pub cols : s.cols ≤ i
 
 abbrev pub BoundMove : ℕ → Move → Type 0
-BoundMove i (To s) = Bound i s
-BoundMove i Stop = Unit {0}
+BoundMove i (Some s) = Bound i s
+BoundMove i None = Unit {0}
 
 -- what holds of both sides holds of the choice
 either {ℓ} : {A : Type ℓ} (P : A → Type 0) (b : Bool) {x y : A} → P x → P y → P (cond b x y)
@@ -49,7 +48,7 @@ bound_move i s b h =
     (either (BoundMove (i + 1)) (lacks_comma (rule s.field).special s.n b) (omega arith) tt))))
 
 -- a bad byte is a place of the text, or its length
-finish_within : (n : ℕ) (k : Special) (cols i : ℕ) → finish n k cols ≡ BadByte i → i ≤ n
+finish_within : (n : ℕ) (k : Special) (cols i : ℕ) → finish n k cols ≡ Err i → i ≤ n
 finish_within n Usual cols i e = let h : i ≡ n = cc in omega arith
 finish_within n ColumnsMayEnd cols i e = let h : i ≡ n = cc in omega arith
 finish_within n StarMayStand cols i e = let h : i ≡ n = cc in omega arith
@@ -57,10 +56,10 @@ finish_within n ColonMayStand cols i e = let h : i ≡ n = cc in omega arith
 finish_within n ColumnIsWhole cols i e = let h : i ≡ n = cc in omega arith
 finish_within n TextIsWhole cols i e = let z : ◌≡◌ {A = ℕ} 0 1 = cc in absurd (omega (arith, z))
 
-answer_within : (s : List ℕ) (x : End Spot) (i : ℕ) → run machine s start 0 ≡ x → answer (length s) x ≡ BadByte i → i ≤ length s
+answer_within : (s : List ℕ) (x : End Spot) (i : ℕ) → run machine s start 0 ≡ x → answer (length s) x ≡ Err i → i ≤ length s
 answer_within s (ended at) i q e = finish_within (length s) (rule at.field).special at.cols i e
 answer_within s (stuck j) i q e = let h : j ≡ i = cc in omega (arith, stuck_within machine s start 0 j q)
 
-pub bad_within : (s : List ℕ) (i : ℕ) → scan_of s ≡ BadByte i → i ≤ length s
+pub bad_within : (s : List ℕ) (i : ℕ) → scan_of s ≡ Err i → i ≤ length s
 unfolding scan_of
 bad_within s i e = answer_within s (run machine s start 0) i refl e

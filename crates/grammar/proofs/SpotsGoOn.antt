@@ -26,16 +26,16 @@ abbrev pub Whole : Spot → Type 0
 Whole st = (rule st.field).special ≡ TextIsWhole
 
 -- no more bytes than the field has
-abbrev pub Ok : Spot → Type 0
-Ok st = st.n ≤ (rule st.field).most
+abbrev pub Fits : Spot → Type 0
+Fits st = st.n ≤ (rule st.field).most
 
-pub ok_keeps : (st : Spot) (b : ℕ) (st' : Spot) → Ok st → machine st b ≡ go st' → Ok st'
-ok_keeps st b st' ok e = by (machine st b) (way st.field st.n st.cols b) e
+pub fits_keeps : (st : Spot) (b : ℕ) (st' : Spot) → Fits st → machine st b ≡ go st' → Fits st'
+fits_keeps st b st' ok e = by (machine st b) (way st.field st.n st.cols b) e
   where
-    same : {x : Spot} → go x ≡ go st' → Ok x → Ok st'
-    same {x} q k = let h : x ≡ st' = cc in subst Ok h k
+    same : {x : Spot} → go x ≡ go st' → Fits x → Fits st'
+    same {x} q k = let h : x ≡ st' = cc in subst Fits h k
 
-    by : (o : Next Spot) → Way st.field st.n st.cols b o → o ≡ go st' → Ok st'
+    by : (o : Next Spot) → Way st.field st.n st.cols b o → o ≡ go st' → Fits st'
     by _ (taken t) q = same q (omega (arith, ((takes_exactly st.field st.n b).0 t).0))
     by _ (shut t) q = same q (omega arith)
     by _ (over t) q = same q (omega arith)
@@ -134,5 +134,5 @@ module _ (cols : ℕ) where
   goes_on ColumnEnd n m = after ColumnEnd n (omega arith) m from_end (λ e. absurd (omega arith))
   goes_on TextEnd n m = ([], refl)
 
-pub live : (st : Spot) → Ok st → Continues machine Whole [] st
+pub live : (st : Spot) → Fits st → Continues machine Whole [] st
 live st ok = goes_on st.cols st.field st.n ok

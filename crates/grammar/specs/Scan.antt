@@ -1,5 +1,5 @@
 -- The machine that reads a header text byte by byte: where it stands, and what a byte does.
-use Rattle.std.specs.Prelude.{Bool, false, cond, List, ℕ, ◌+◌, length, ltb, leb, eqb}
+use Rattle.std.specs.Prelude.{Bool, false, cond, List, ℕ, ◌+◌, length, ltb, leb, eqb, Option, Some, None, Result, Ok, Err}
 use Rattle.laws.specs.Machine.{End, ended, stuck, Next, go, stop, run}
 use Rattle.grammar.specs.Words.{semicolon, colon, star}
 use Rattle.grammar.specs.Fields.{rule, allowed}
@@ -8,10 +8,6 @@ use Rattle.grammar.specs.declared.Field.TheVariants.{OrderLetter, Name, AfterSta
 use Rattle.grammar.specs.declared.Special.{Special}
 use Rattle.grammar.specs.declared.Special.TheVariants.{Usual, ColumnsMayEnd, StarMayStand, ColonMayStand, ColumnIsWhole, TextIsWhole}
 use Rattle.grammar.specs.declared.Spot.{Spot}
-use Rattle.grammar.specs.declared.Move.{Move}
-use Rattle.grammar.specs.declared.Move.TheVariants.{To, Stop}
-use Rattle.grammar.specs.declared.Scan.{Scan}
-use Rattle.grammar.specs.declared.Scan.TheVariants.{Columns, BadByte}
 
 -- in the field, after n of its bytes and `cols` whole columns
 abbrev pub spot : Field → ℕ → ℕ → Spot
@@ -65,22 +61,26 @@ columns_after TextIsWhole cols = cols
 abbrev pub closed : Field → ℕ → Spot
 closed f cols = spot (rule f).next 0 (columns_after (rule f).special cols)
 
+-- what a byte does: where the reading stands then, or that no text goes on so
+abbrev pub Move : Type 0
+Move = Option Spot
+
 -- what a byte does that is not taken into the field and does not close it, and what one does that is not taken into the field
 abbrev pub special_move : Special → ℕ → ℕ → ℕ → Move
 special_move k n cols b =
-    cond (ends k n cols b) (To (spot TextEnd 0 cols))
-    (cond (stars k n b) (To (spot AfterStar 0 cols))
-    (cond (lacks_comma k n b) (To (spot Name 0 (cols + 1))) Stop))
+    cond (ends k n cols b) (Some (spot TextEnd 0 cols))
+    (cond (stars k n b) (Some (spot AfterStar 0 cols))
+    (cond (lacks_comma k n b) (Some (spot Name 0 (cols + 1))) None))
 
 abbrev pub past_move : Field → ℕ → ℕ → ℕ → Move
-past_move f n cols b = cond (closes f n b) (To (closed f cols)) (special_move (rule f).special n cols b)
+past_move f n cols b = cond (closes f n b) (Some (closed f cols)) (special_move (rule f).special n cols b)
 
 unfoldable pub move : Spot → ℕ → Move
-move s b = cond (takes s.field s.n b) (To (spot s.field (s.n + 1) s.cols)) (past_move s.field s.n s.cols b)
+move s b = cond (takes s.field s.n b) (Some (spot s.field (s.n + 1) s.cols)) (past_move s.field s.n s.cols b)
 
 abbrev pub next_of : Move → Next Spot
-next_of (To s) = go s
-next_of Stop = stop
+next_of (Some s) = go s
+next_of None = stop
 
 abbrev pub machine : Spot → ℕ → Next Spot
 machine s b = next_of (move s b)
@@ -88,18 +88,22 @@ machine s b = next_of (move s b)
 abbrev pub start : Spot
 start = spot OrderLetter 0 0
 
+-- what a scan finds: how many columns a text has, or the place of its first bad byte
+abbrev pub Scan : Type 0
+Scan = Result ℕ ℕ
+
 -- at the end of the text: the columns, or the place where more is wanted
 abbrev pub finish : ℕ → Special → ℕ → Scan
-finish n TextIsWhole cols = Columns cols
-finish n Usual cols = BadByte n
-finish n ColumnsMayEnd cols = BadByte n
-finish n StarMayStand cols = BadByte n
-finish n ColonMayStand cols = BadByte n
-finish n ColumnIsWhole cols = BadByte n
+finish n TextIsWhole cols = Ok cols
+finish n Usual cols = Err n
+finish n ColumnsMayEnd cols = Err n
+finish n StarMayStand cols = Err n
+finish n ColonMayStand cols = Err n
+finish n ColumnIsWhole cols = Err n
 
 abbrev pub answer : ℕ → End Spot → Scan
 answer n (ended s) = finish n (rule s.field).special s.cols
-answer n (stuck i) = BadByte i
+answer n (stuck i) = Err i
 
 -- THE SCAN of a text: how many columns it has, or the first byte that cannot continue (the text's length where it ends too soon)
 unfoldable pub scan_of : List ℕ → Scan

@@ -1,13 +1,14 @@
 // The grammar of a header text: a machine that reads it byte by byte, and a way past a text of the grammar field by field.
 #![tactic(auto)]
 
-ghost use Rattle.std.specs.Prelude.{◌≡◌, ◌+◌, ◌≤◌, ◌<◌, ◌^◌, length};
-ghost use Rattle.grammar.specs.Fields.{asks, rule, printable, letter, plain, digit, holds, allowed};
+ghost use Rattle.std.specs.Prelude.{◌≡◌, ◌+◌, ◌≤◌, ◌<◌, ◌^◌, length, IfSome};
+ghost use Rattle.grammar.specs.declared.Class.{Class};
+ghost use Rattle.grammar.specs.Fields.{rule, printable, letter, plain, digit, holds, allowed};
 ghost use Rattle.grammar.specs.Scan.{takes, closes, ends, stars, lacks_comma, columns_after, closed, special_move, past_move, move, finish, spot, scan_of};
 ghost use Rattle.grammar.specs.Serving.Passing.{stands, Run, Shut, Past};
 
 // The fields of the text in their order; of a column from Name to ColumnEnd.
-#[derive(Clone, Copy)]
+#[derive(Clone, Copy, PartialEq, Eq)]
 pub enum Field {
     OrderLetter,
     TableDescription,
@@ -26,7 +27,7 @@ pub enum Field {
 }
 
 // Which bytes a field holds.
-#[derive(Clone, Copy)]
+#[derive(Clone, Copy, PartialEq, Eq)]
 pub enum Class {
     Letters,
     NoSemicolon,
@@ -36,7 +37,7 @@ pub enum Class {
 
 // What is special of a field: at its start `;` may end the columns, or a star may stand for the count; after its bytes `:` may stand
 // without the comma; closing it makes a column whole; the text is whole.
-#[derive(Clone, Copy)]
+#[derive(Clone, Copy, PartialEq, Eq)]
 pub enum Special {
     Usual,
     ColumnsMayEnd,
@@ -64,173 +65,165 @@ pub struct Spot {
     pub cols: usize,
 }
 
-#[derive(Clone, Copy)]
-pub enum Move {
-    To(Spot),
-    Stop,
-}
-
-#[derive(Clone, Copy)]
-pub enum Scan {
-    Columns(usize),
-    BadByte(usize),
-}
-
-// A row of the table below, in the order of its columns: least and most bytes, which bytes, the byte that closes the field, the
-// field after it, and what is special.
-fn asks_for(
-    least: usize,
-    most: usize,
-    holds: Class,
-    closer: u8,
-    next: Field,
-    special: Special,
-) -> Rule
-    ensures { result ≡ asks least most holds closer next special }
-{
-    Rule {
-        least: least,
-        most: most,
-        holds: holds,
-        closer: closer,
-        next: next,
-        special: special,
-    }
-}
-
 // What each field asks.
 fn rule_of(field: Field) -> Rule
     ensures { result ≡ rule field }
 {
     match field {
-        Field::OrderLetter => asks_for(
-            0,
-            1,
-            Class::Letters,
-            b';',
-            Field::TableDescription,
-            Special::Usual,
-        ),
-        Field::TableDescription => asks_for(
-            0,
-            80,
-            Class::NoSemicolon,
-            b';',
-            Field::TableNarrative,
-            Special::Usual,
-        ),
-        Field::TableNarrative => asks_for(
-            1,
-            12,
-            Class::NoSemicolon,
-            b';',
-            Field::Name,
-            Special::Usual,
-        ),
-        Field::Name => asks_for(
-            1,
-            24,
-            Class::Plain,
-            b'=',
-            Field::Kind,
-            Special::ColumnsMayEnd,
-        ),
-        Field::Kind => asks_for(1, 1, Class::Plain, b',', Field::Numeral, Special::Usual),
-        Field::Numeral => asks_for(1, 5, Class::Digits, b',', Field::Key, Special::StarMayStand),
-        Field::AfterStar => asks_for(0, 0, Class::Plain, b',', Field::Key, Special::Usual),
-        Field::Key => asks_for(1, 1, Class::Plain, b',', Field::Description, Special::Usual),
-        Field::Description => asks_for(
-            0,
-            80,
-            Class::Plain,
-            b',',
-            Field::ValueTable,
-            Special::Usual,
-        ),
-        Field::ValueTable => asks_for(
-            1,
-            12,
-            Class::Plain,
-            b',',
-            Field::ThematicIndex,
-            Special::Usual,
-        ),
-        Field::ThematicIndex => asks_for(
-            1,
-            12,
-            Class::Plain,
-            b',',
-            Field::Narrative,
-            Special::Usual,
-        ),
-        Field::Narrative => asks_for(
-            1,
-            12,
-            Class::Plain,
-            b',',
-            Field::ColumnEnd,
-            Special::ColonMayStand,
-        ),
-        Field::ColumnEnd => asks_for(
-            0,
-            0,
-            Class::Plain,
-            b':',
-            Field::Name,
-            Special::ColumnIsWhole,
-        ),
-        Field::TextEnd => asks_for(
-            1,
-            0,
-            Class::Plain,
-            b';',
-            Field::TextEnd,
-            Special::TextIsWhole,
-        ),
+        Field::OrderLetter => Rule {
+            least: 0,
+            most: 1,
+            holds: Class::Letters,
+            closer: b';',
+            next: Field::TableDescription,
+            special: Special::Usual,
+        },
+        Field::TableDescription => Rule {
+            least: 0,
+            most: 80,
+            holds: Class::NoSemicolon,
+            closer: b';',
+            next: Field::TableNarrative,
+            special: Special::Usual,
+        },
+        Field::TableNarrative => Rule {
+            least: 1,
+            most: 12,
+            holds: Class::NoSemicolon,
+            closer: b';',
+            next: Field::Name,
+            special: Special::Usual,
+        },
+        Field::Name => Rule {
+            least: 1,
+            most: 24,
+            holds: Class::Plain,
+            closer: b'=',
+            next: Field::Kind,
+            special: Special::ColumnsMayEnd,
+        },
+        Field::Kind => Rule {
+            least: 1,
+            most: 1,
+            holds: Class::Plain,
+            closer: b',',
+            next: Field::Numeral,
+            special: Special::Usual,
+        },
+        Field::Numeral => Rule {
+            least: 1,
+            most: 5,
+            holds: Class::Digits,
+            closer: b',',
+            next: Field::Key,
+            special: Special::StarMayStand,
+        },
+        Field::AfterStar => Rule {
+            least: 0,
+            most: 0,
+            holds: Class::Plain,
+            closer: b',',
+            next: Field::Key,
+            special: Special::Usual,
+        },
+        Field::Key => Rule {
+            least: 1,
+            most: 1,
+            holds: Class::Plain,
+            closer: b',',
+            next: Field::Description,
+            special: Special::Usual,
+        },
+        Field::Description => Rule {
+            least: 0,
+            most: 80,
+            holds: Class::Plain,
+            closer: b',',
+            next: Field::ValueTable,
+            special: Special::Usual,
+        },
+        Field::ValueTable => Rule {
+            least: 1,
+            most: 12,
+            holds: Class::Plain,
+            closer: b',',
+            next: Field::ThematicIndex,
+            special: Special::Usual,
+        },
+        Field::ThematicIndex => Rule {
+            least: 1,
+            most: 12,
+            holds: Class::Plain,
+            closer: b',',
+            next: Field::Narrative,
+            special: Special::Usual,
+        },
+        Field::Narrative => Rule {
+            least: 1,
+            most: 12,
+            holds: Class::Plain,
+            closer: b',',
+            next: Field::ColumnEnd,
+            special: Special::ColonMayStand,
+        },
+        Field::ColumnEnd => Rule {
+            least: 0,
+            most: 0,
+            holds: Class::Plain,
+            closer: b':',
+            next: Field::Name,
+            special: Special::ColumnIsWhole,
+        },
+        Field::TextEnd => Rule {
+            least: 1,
+            most: 0,
+            holds: Class::Plain,
+            closer: b';',
+            next: Field::TextEnd,
+            special: Special::TextIsWhole,
+        },
     }
 }
 
 // Bytes are 32 to 126.
+#[tactic(auto, using(std::proofs::lemmas::Bool::Decides::nat_tests), unfolding(crate::specs::Fields::printable))]
 fn is_printable(byte: u8) -> bool
     ensures { result ≡ printable byte }
 {
-    if byte < 32 { false } else { byte <= 126 }
+    matches!(byte, 32..=126)
 }
 
 // Whether the byte is an order letter.
+#[tactic(auto, using(std::proofs::lemmas::Bool::Decides::nat_tests), unfolding(crate::specs::Fields::letter))]
 fn is_letter(byte: u8) -> bool
     ensures { result ≡ letter byte }
 {
-    if byte == b'L' { true } else { byte == b'M' }
+    matches!(byte, b'L' | b'M')
 }
 
 // Whether a column field may hold the byte: none of `; : , =`.
+// `matches!` was tried: a header of 128 columns took a third longer, since the compiler then makes four tests of each byte in place of one.
+#[tactic(auto, using(std::proofs::lemmas::Bool::Decides::nat_tests), unfolding(crate::specs::Fields::plain))]
 fn is_plain(byte: u8) -> bool
     ensures { result ≡ plain byte }
 {
-    if byte == b';' {
-        false
-    } else if byte == b':' {
-        false
-    } else if byte == b',' {
-        false
-    } else {
-        byte != b'='
-    }
+    byte != b';' && byte != b':' && byte != b',' && byte != b'='
 }
 
 // Whether the byte may stand as digit n of a count, from 0: the first is not `0`.
+#[tactic(auto, using(std::proofs::lemmas::Bool::Decides::nat_tests), unfolding(crate::specs::Fields::digit))]
 fn is_digit(n: usize, byte: u8) -> bool
     ensures { result ≡ digit n byte }
 {
     if n == 0 {
-        if b'1' <= byte { byte <= b'9' } else { false }
+        matches!(byte, b'1'..=b'9')
     } else {
-        if b'0' <= byte { byte <= b'9' } else { false }
+        byte.is_ascii_digit()
     }
 }
 
 // Whether a field of the class may hold the byte as byte n, from 0, as far as the class goes.
+#[tactic(auto, unfolding(crate::specs::Fields::holds))]
 fn class_holds(class: Class, n: usize, byte: u8) -> bool
     ensures { result ≡ holds class n byte }
 {
@@ -243,87 +236,53 @@ fn class_holds(class: Class, n: usize, byte: u8) -> bool
 }
 
 // Whether the byte may stand as byte n, from 0, of a field of the class.
+#[tactic(auto, unfolding(crate::specs::Fields::allowed))]
 fn is_allowed(class: Class, n: usize, byte: u8) -> bool
     ensures { result ≡ allowed class n byte }
 {
-    if is_printable(byte) {
-        class_holds(class, n, byte)
-    } else {
-        false
-    }
+    is_printable(byte) && class_holds(class, n, byte)
 }
 
 // Whether the byte is one more of the field, after n of them.
+#[tactic(auto, using(std::proofs::lemmas::Bool::Decides::nat_tests), unfolding(crate::specs::Scan::takes))]
 fn takes_byte(field: Field, n: usize, byte: u8) -> bool
     ensures { result ≡ takes field n byte }
 {
     let rule = rule_of(field);
-    let class = rule.holds;
-    if n < rule.most {
-        is_allowed(class, n, byte)
-    } else {
-        false
-    }
+    n < rule.most && is_allowed(rule.holds, n, byte)
 }
 
 // Whether the byte closes the field after n bytes.
+#[tactic(auto, using(std::proofs::lemmas::Bool::Decides::nat_tests), unfolding(crate::specs::Scan::closes))]
 fn closes_at(field: Field, n: usize, byte: u8) -> bool
     ensures { result ≡ closes field n byte }
 {
     let rule = rule_of(field);
-    if byte == rule.closer {
-        rule.least <= n
-    } else {
-        false
-    }
+    byte == rule.closer && rule.least <= n
 }
 
 // Whether the byte ends the columns: where a name would start, after one column at least.
+#[tactic(auto, using(std::proofs::lemmas::Bool::Decides::nat_tests), unfolding(crate::specs::Scan::ends))]
 fn ends_columns(special: Special, n: usize, cols: usize, byte: u8) -> bool
     ensures { result ≡ ends special n cols byte }
 {
-    match special {
-        Special::ColumnsMayEnd => {
-            if byte == b';' {
-                if n == 0 { 0 < cols } else { false }
-            } else {
-                false
-            }
-        }
-        Special::Usual => false,
-        Special::StarMayStand => false,
-        Special::ColonMayStand => false,
-        Special::ColumnIsWhole => false,
-        Special::TextIsWhole => false,
-    }
+    special == Special::ColumnsMayEnd && byte == b';' && n == 0 && 0 < cols
 }
 
 // Whether the byte is a star that stands for a count.
+#[tactic(auto, using(std::proofs::lemmas::Bool::Decides::nat_tests), unfolding(crate::specs::Scan::stars))]
 fn is_star(special: Special, n: usize, byte: u8) -> bool
     ensures { result ≡ stars special n byte }
 {
-    match special {
-        Special::StarMayStand => { if byte == b'*' { n == 0 } else { false } }
-        Special::Usual => false,
-        Special::ColumnsMayEnd => false,
-        Special::ColonMayStand => false,
-        Special::ColumnIsWhole => false,
-        Special::TextIsWhole => false,
-    }
+    special == Special::StarMayStand && byte == b'*' && n == 0
 }
 
 // Whether the byte is the colon of a column that lacks its last comma.
+#[tactic(auto, using(std::proofs::lemmas::Bool::Decides::nat_tests), unfolding(crate::specs::Scan::lacks_comma))]
 fn lacks_comma(special: Special, n: usize, byte: u8) -> bool
     ensures { result ≡ lacks_comma special n byte }
 {
-    match special {
-        Special::ColonMayStand => { if byte == b':' { 0 < n } else { false } }
-        Special::Usual => false,
-        Special::ColumnsMayEnd => false,
-        Special::StarMayStand => false,
-        Special::ColumnIsWhole => false,
-        Special::TextIsWhole => false,
-    }
+    special == Special::ColonMayStand && byte == b':' && 0 < n
 }
 
 // The columns that are whole once a field is closed.
@@ -331,98 +290,88 @@ fn columns_after(special: Special, cols: usize) -> usize
     requires { cols + 1 < 2 ^ 64 }
     ensures { result ≡ columns_after special cols }
 {
-    match special {
-        Special::ColumnIsWhole => cols + 1,
-        Special::Usual => cols,
-        Special::ColumnsMayEnd => cols,
-        Special::StarMayStand => cols,
-        Special::ColonMayStand => cols,
-        Special::TextIsWhole => cols,
+    if special == Special::ColumnIsWhole {
+        cols + 1
+    } else {
+        cols
     }
 }
 
-// What a byte does to a reading that neither takes it into its field nor closes the field by it.
-fn step_specially(special: Special, n: usize, cols: usize, byte: u8) -> Move
+// What a byte does to a reading that neither takes it into its field nor closes the field by it: where the reading stands then, if
+// anywhere.
+fn step_specially(special: Special, n: usize, cols: usize, byte: u8) -> Option<Spot>
     requires { cols + 1 < 2 ^ 64 }
     ensures { result ≡ special_move special n cols byte }
 {
     if ends_columns(special, n, cols, byte) {
-        Move::To(Spot {
+        Some(Spot {
             field: Field::TextEnd,
             n: 0,
             cols: cols,
         })
     } else if is_star(special, n, byte) {
-        Move::To(Spot {
+        Some(Spot {
             field: Field::AfterStar,
             n: 0,
             cols: cols,
         })
     } else if lacks_comma(special, n, byte) {
-        Move::To(Spot {
+        Some(Spot {
             field: Field::Name,
             n: 0,
             cols: cols + 1,
         })
     } else {
-        Move::Stop
+        None
     }
 }
 
 // What a byte does to a reading that does not take it into its field.
-fn step_past(field: Field, n: usize, cols: usize, byte: u8) -> Move
+fn step_past(field: Field, n: usize, cols: usize, byte: u8) -> Option<Spot>
     requires { cols + 1 < 2 ^ 64 }
     ensures { result ≡ past_move field n cols byte }
 {
     let rule = rule_of(field);
-    let next = rule.next;
-    let special = rule.special;
     if closes_at(field, n, byte) {
-        Move::To(Spot {
-            field: next,
+        Some(Spot {
+            field: rule.next,
             n: 0,
-            cols: columns_after(special, cols),
+            cols: columns_after(rule.special, cols),
         })
     } else {
-        step_specially(special, n, cols, byte)
+        step_specially(rule.special, n, cols, byte)
     }
 }
 
 // What the byte does to a reading. No reading of a text has 2^64 - 1 bytes of a field or whole columns behind it.
-fn step(at: Spot, byte: u8) -> Move
+fn step(at: Spot, byte: u8) -> Option<Spot>
     requires { (at.n + 1 < 2 ^ 64) × (at.cols + 1 < 2 ^ 64) }
     ensures { result ≡ move at byte }
 {
-    let field = at.field;
-    let n = at.n;
-    let cols = at.cols;
-    if takes_byte(field, n, byte) {
-        Move::To(Spot {
-            field: field,
-            n: n + 1,
-            cols: cols,
+    if takes_byte(at.field, at.n, byte) {
+        Some(Spot {
+            field: at.field,
+            n: at.n + 1,
+            cols: at.cols,
         })
     } else {
-        step_past(field, n, cols, byte)
+        step_past(at.field, at.n, at.cols, byte)
     }
 }
 
 // What a reading that stands at the end of its text, of n bytes, has found.
-fn finish_at(n: usize, special: Special, cols: usize) -> Scan
+fn finish_at(n: usize, special: Special, cols: usize) -> Result<usize, usize>
     ensures { result ≡ finish n special cols }
 {
-    match special {
-        Special::TextIsWhole => Scan::Columns(cols),
-        Special::Usual => Scan::BadByte(n),
-        Special::ColumnsMayEnd => Scan::BadByte(n),
-        Special::StarMayStand => Scan::BadByte(n),
-        Special::ColonMayStand => Scan::BadByte(n),
-        Special::ColumnIsWhole => Scan::BadByte(n),
+    if special == Special::TextIsWhole {
+        Ok(cols)
+    } else {
+        Err(n)
     }
 }
 
 // The number of columns of a header text, or the first byte that cannot continue, found byte by byte.
-fn scan_bytes(text: &[u8]) -> Scan
+fn scan_bytes(text: &[u8]) -> Result<usize, usize>
     ensures { result ≡ scan_of text.now }
 {
     let mut at = Spot {
@@ -430,234 +379,199 @@ fn scan_bytes(text: &[u8]) -> Scan
         n: 0,
         cols: 0,
     };
-    let mut i = 0;
-    while i < text.len() {
-        match step(at, text[i]) {
-            Move::To(next) => {
-                at = next;
-            }
-            Move::Stop => {
-                return Scan::BadByte(i);
-            }
-        }
-        i += 1;
+    for (i, byte) in text.iter().enumerate() {
+        at = step(at, *byte).ok_or(i)?;
     }
-    let field = at.field;
-    let rule = rule_of(field);
-    let special = rule.special;
-    finish_at(i, special, at.cols)
+    let rule = rule_of(at.field);
+    finish_at(text.len(), rule.special, at.cols)
 }
 
-// ---- A text of the grammar passed field by field: each function answers the place past what it passes, or 0 where that does not stand
-// there. From 0 the next ones answer 0, so that only the last answer is looked at.
+// ---- A text of the grammar passed field by field: each function answers the place past what it passes, or None where that does not
+// stand there.
 
-// The lesser of two numbers.
-fn lesser(a: usize, b: usize) -> usize
-    ensures { (result ≤ a) × (result ≤ b) }
-{
-    if a < b { a } else { b }
+// The bytes that fields of one class hold, a type for each class, so that a loop over a field's bytes does not choose its test anew for
+// each of them.
+trait Bytes {
+    ghost class: { Class };
+
+    // Whether the byte may stand as byte n, from 0.
+    fn may_stand(n: usize, byte: u8) -> bool
+        ensures { result ≡ allowed class n byte };
+}
+
+struct Letters;
+
+impl Bytes for Letters {
+    ghost class = { Class.Letters };
+
+    fn may_stand(n: usize, byte: u8) -> bool {
+        is_allowed(Class::Letters, n, byte)
+    }
+}
+
+struct NoSemicolon;
+
+impl Bytes for NoSemicolon {
+    ghost class = { Class.NoSemicolon };
+
+    fn may_stand(n: usize, byte: u8) -> bool {
+        is_allowed(Class::NoSemicolon, n, byte)
+    }
+}
+
+struct Plain;
+
+impl Bytes for Plain {
+    ghost class = { Class.Plain };
+
+    fn may_stand(n: usize, byte: u8) -> bool {
+        is_allowed(Class::Plain, n, byte)
+    }
+}
+
+struct Digits;
+
+impl Bytes for Digits {
+    ghost class = { Class.Digits };
+
+    fn may_stand(n: usize, byte: u8) -> bool {
+        is_allowed(Class::Digits, n, byte)
+    }
 }
 
 // How many bytes from a place on may stand in a field of the class that has at most so many.
-fn run_of(class: Class, text: &[u8], from: usize, most: usize) -> usize
+// A field of one byte has no loop, and no `usize::from` of its test: both were tried, and a header of 128 columns took 6 and 4 percent more instructions.
+#[tactic(auto, using(crate::proofs::PassLaws::run_none, crate::proofs::PassLaws::run_more))]
+#[inline(always)]
+fn run_of<B: Bytes>(text: &[u8], from: usize, most: usize) -> usize
     requires { from ≤ length text.now }
-    ensures { Run text.now class most from result }
+    ensures { Run text.now B.class most from result }
 {
-    let room = lesser(most, text.len() - from);
-    let mut n = 0;
-    while n < room {
-        if is_allowed(class, n, text[from + n]) {
-            n += 1;
+    if most == 1 {
+        return if from < text.len() && B::may_stand(0, text[from]) {
+            1
         } else {
+            0
+        };
+    }
+    let room = most.min(text.len() - from);
+    for n in 0..room {
+        if !B::may_stand(n, text[from + n]) {
             return n;
         }
     }
-    n
-}
-
-// The same of the class that nearly all fields have. It stands by itself so that the test is not chosen anew for each byte.
-fn run_of_plain(text: &[u8], from: usize, most: usize) -> usize
-    requires { from ≤ length text.now }
-    ensures { Run text.now Class.Plain most from result }
-{
-    let room = lesser(most, text.len() - from);
-    let mut n = 0;
-    while n < room {
-        if is_allowed(Class::Plain, n, text[from + n]) {
-            n += 1;
-        } else {
-            return n;
-        }
-    }
-    n
-}
-
-// The same of a field of one byte at most, without a loop: two fields of every column are of this kind.
-fn run_of_one(text: &[u8], from: usize) -> usize
-    requires { from ≤ length text.now }
-    ensures { Run text.now Class.Plain 1 from result }
-{
-    if from < text.len() {
-        if is_allowed(Class::Plain, 0, text[from]) {
-            return 1;
-        }
-    }
-    0
+    room
 }
 
 // Whether the byte stands at the place.
+#[tactic(auto, using(std::proofs::lemmas::Bool::Decides::nat_tests), unfolding(crate::specs::Serving::Passing::stands))]
 fn stands_at(text: &[u8], place: usize, byte: u8) -> bool
     ensures { result ≡ stands text.now place byte }
 {
-    if place < text.len() {
-        text[place] == byte
-    } else {
-        false
-    }
+    place < text.len() && text[place] == byte
 }
 
-// The place past the byte that closes a field, of n bytes from a place on; or 0.
-fn past_closer(text: &[u8], from: usize, n: usize, least: usize, closer: u8) -> usize
+// The place past the byte that closes a field, of n bytes from a place on.
+#[tactic(auto, using(crate::proofs::PassLaws::stands_says))]
+fn past_closer(text: &[u8], from: usize, n: usize, least: usize, closer: u8) -> Option<usize>
     requires { from + n ≤ length text.now }
-    ensures { 0 < result → Shut text.now from n least closer result }
+    ensures { IfSome result (λ place. Shut text.now from n least closer place) }
 {
     let end = from + n;
-    if n < least {
-        return 0;
-    }
-    if stands_at(text, end, closer) {
-        end + 1
+    if least <= n && stands_at(text, end, closer) {
+        Some(end + 1)
     } else {
-        0
+        None
     }
 }
 
-// The place past a field and its closer; or 0.
-fn past_field(text: &[u8], from: usize, field: Field) -> usize
+// The place past a field and its closer. It is made for each field that is named in a call, so that its rule is not looked up.
+#[inline(always)]
+fn past_field<B: Bytes>(text: &[u8], from: usize, field: Field) -> Option<usize>
+    requires { (from ≤ length text.now) × ((rule field).holds ≡ B.class) }
+    ensures { IfSome result (λ place. Past text.now from place (spot field 0) (closed field)) }
+{
+    let rule = rule_of(field);
+    let n = run_of::<B>(text, from, rule.most);
+    past_closer(text, from, n, rule.least, rule.closer)
+}
+
+// The place past a count, a star or digits, and its closer.
+#[tactic(auto, using(crate::proofs::PassLaws::stands_says))]
+fn past_count(text: &[u8], from: usize) -> Option<usize>
     requires { from ≤ length text.now }
-    ensures { Past text.now from result (spot field 0) (closed field) }
+    ensures { IfSome result (λ place. Past text.now from place (spot Field.Numeral 0) (spot Field.Key 0)) }
 {
-    let rule = rule_of(field);
-    let class = rule.holds;
-    let n = run_of(class, text, from, rule.most);
-    past_closer(text, from, n, rule.least, rule.closer)
-}
-
-// The same of a field that holds plain bytes; from 0 it is 0.
-fn past_plain(text: &[u8], from: usize, field: Field) -> usize
-    requires { (from ≤ length text.now) × ((rule field).holds ≡ Class.Plain) }
-    ensures { (0 < result → 0 < from) × Past text.now from result (spot field 0) (closed field) }
-{
-    if from == 0 {
-        return 0;
-    }
-    let rule = rule_of(field);
-    let n = run_of_plain(text, from, rule.most);
-    past_closer(text, from, n, rule.least, rule.closer)
-}
-
-// The same of a field of one byte at most.
-fn past_letter(text: &[u8], from: usize, field: Field) -> usize
-    requires { (from ≤ length text.now) × ((rule field).holds ≡ Class.Plain) × ((rule field).most ≡ 1) }
-    ensures { (0 < result → 0 < from) × Past text.now from result (spot field 0) (closed field) }
-{
-    if from == 0 {
-        return 0;
-    }
-    let rule = rule_of(field);
-    let n = run_of_one(text, from);
-    past_closer(text, from, n, rule.least, rule.closer)
-}
-
-// The place past a count, a star or digits, and its closer; or 0.
-fn past_count(text: &[u8], from: usize) -> usize
-    requires { from ≤ length text.now }
-    ensures { (0 < result → 0 < from) × Past text.now from result (spot Field.Numeral 0) (spot Field.Key 0) }
-{
-    if from == 0 {
-        return 0;
-    }
     if stands_at(text, from, b'*') {
-        past_plain(text, from + 1, Field::AfterStar)
+        past_field::<Plain>(text, from + 1, Field::AfterStar)
     } else {
-        past_field(text, from, Field::Numeral)
+        past_field::<Digits>(text, from, Field::Numeral)
     }
 }
 
-// The place past a column's last name and what ends the column, `,` and `:` or `:` alone; or 0.
-fn past_last(text: &[u8], from: usize) -> usize
+// The place past a column's last name and what ends the column, `,` and `:` or `:` alone.
+fn past_last(text: &[u8], from: usize) -> Option<usize>
     requires { from ≤ length text.now }
-    ensures { (0 < result → 0 < from) × Past text.now from result (spot Field.Narrative 0) (λ cols. spot Field.Name 0 (cols + 1)) }
+    ensures { IfSome result (λ place. Past text.now from place (spot Field.Narrative 0) (λ cols. spot Field.Name 0 (cols + 1))) }
 {
-    if from == 0 {
-        return 0;
-    }
     let rule = rule_of(Field::Narrative);
-    let n = run_of_plain(text, from, rule.most);
-    let end = past_closer(text, from, n, rule.least, rule.closer);
-    if end == 0 {
-        return past_closer(text, from, n, rule.least, b':');
+    let n = run_of::<Plain>(text, from, rule.most);
+    match past_closer(text, from, n, rule.least, rule.closer) {
+        Some(end) => past_closer(text, end, 0, 0, b':'),
+        None => past_closer(text, from, n, rule.least, b':'),
     }
-    past_closer(text, end, 0, 0, b':')
 }
 
-// The place past a column; or 0.
-fn past_column(text: &[u8], from: usize) -> usize
+// The place past a column.
+fn past_column(text: &[u8], from: usize) -> Option<usize>
     requires { from ≤ length text.now }
-    ensures { (0 < result → 0 < from) × Past text.now from result (spot Field.Name 0) (λ cols. spot Field.Name 0 (cols + 1)) }
+    ensures { IfSome result (λ place. Past text.now from place (spot Field.Name 0) (λ cols. spot Field.Name 0 (cols + 1))) }
 {
-    let at = past_plain(text, from, Field::Name);
-    let at = past_letter(text, at, Field::Kind);
-    let at = past_count(text, at);
-    let at = past_letter(text, at, Field::Key);
-    let at = past_plain(text, at, Field::Description);
-    let at = past_plain(text, at, Field::ValueTable);
-    let at = past_plain(text, at, Field::ThematicIndex);
-    past_last(text, at)
+    let kind = past_field::<Plain>(text, from, Field::Name)?;
+    let count = past_field::<Plain>(text, kind, Field::Kind)?;
+    let key = past_count(text, count)?;
+    let description = past_field::<Plain>(text, key, Field::Key)?;
+    let value_table = past_field::<Plain>(text, description, Field::Description)?;
+    let thematic_index = past_field::<Plain>(text, value_table, Field::ValueTable)?;
+    let narrative = past_field::<Plain>(text, thematic_index, Field::ThematicIndex)?;
+    past_last(text, narrative)
 }
 
-// The place past what stands before the columns; or 0.
-fn past_title(text: &[u8]) -> usize
-    ensures { Past text.now 0 result (spot Field.OrderLetter 0) (spot Field.Name 0) }
+// The place past what stands before the columns.
+fn past_title(text: &[u8]) -> Option<usize>
+    ensures { IfSome result (λ place. Past text.now 0 place (spot Field.OrderLetter 0) (spot Field.Name 0)) }
 {
-    let at = past_field(text, 0, Field::OrderLetter);
-    if at == 0 {
-        return 0;
-    }
-    let at = past_field(text, at, Field::TableDescription);
-    if at == 0 {
-        return 0;
-    }
-    past_field(text, at, Field::TableNarrative)
+    let description = past_field::<Letters>(text, 0, Field::OrderLetter)?;
+    let narrative = past_field::<NoSemicolon>(text, description, Field::TableDescription)?;
+    past_field::<NoSemicolon>(text, narrative, Field::TableNarrative)
 }
 
-// The number of columns of a text that is in the grammar; or 0.
-fn columns_of(text: &[u8]) -> usize
-    ensures { 0 < result → scan_of text.now ≡ Scan.Columns result }
+// The number of columns of a text, if it is in the grammar.
+#[tactic(auto, using(crate::proofs::PassLaws::counted_more, crate::proofs::PassLaws::counted_all))]
+fn columns_of(text: &[u8]) -> Option<usize>
+    ensures { IfSome result (λ cols. scan_of text.now ≡ Ok cols) }
 {
-    let mut at = past_column(text, past_title(text));
-    if at == 0 {
-        return 0;
-    }
+    let first = past_title(text)?;
+    let mut at = past_column(text, first)?;
     let mut cols = 1;
     while !stands_at(text, at, b';') {
-        at = past_column(text, at);
-        if at == 0 {
-            return 0;
-        }
+        at = past_column(text, at)?;
         cols += 1;
     }
-    if at + 1 == text.len() { cols } else { 0 }
+    if at + 1 == text.len() {
+        Some(cols)
+    } else {
+        None
+    }
 }
 
 // The number of columns of a header text, or the first byte that cannot continue: the text's length where it ends too soon. A text
 // that is in the grammar is passed by its fields; only one that is not is read byte by byte, for the place.
-pub fn scan_text(text: &[u8]) -> Scan
+pub fn scan_text(text: &[u8]) -> Result<usize, usize>
     ensures { result ≡ scan_of text.now }
 {
-    let cols = columns_of(text);
-    if 0 < cols {
-        return Scan::Columns(cols);
+    match columns_of(text) {
+        Some(cols) => Ok(cols),
+        None => scan_bytes(text),
     }
-    scan_bytes(text)
 }

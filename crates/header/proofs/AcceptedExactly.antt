@@ -2,6 +2,7 @@
 use mathlib.Core.Path.{◌≡◌, refl, subst}
 use mathlib.Core.Logic.{◌↔◌}
 use mathlib.Core.List.{List}
+use Rattle.std.specs.Prelude.{Ok}
 use Prim.Native.Nat.{ℕ, ◌+◌, ◌≤◌}
 use borrow.Author.Tests.{eqb-true, eq-eqb}
 use lib.Dec.{eqb}
@@ -11,10 +12,10 @@ use Rattle.laws.proofs.TestLaws.{clash}
 use Rattle.refusal.specs.declared.Refusal.{Refusal}
 use Rattle.number.specs.Bytes.{number}
 use Rattle.grammar.specs.Words.{Reading, Reads}
-use Rattle.header.specs.declared.Answer.TheVariants.{Accepted}
 use Rattle.limits.specs.Limits.{most_text, most_columns}
-use Rattle.header.specs.Judge.{header_refusal, answered}
-use Rattle.header.specs.Layouts.{header_of}
+use Rattle.refusal.specs.Order.{unless}
+use Rattle.header.specs.Judge.{header_refusal}
+use Rattle.header.specs.Layouts.{handed_on, header_of}
 use Rattle.header.specs.Words.{OneId, AcceptedHeader}
 use Rattle.header.specs.Refusals.{SaysLength, text_in, TextReads, OfLength, OfReading, AllSound, NamesDiffer, Test, five_bytes}
 use Rattle.header.specs.Refusals.{order_letter, text_fits, text_limit, in_grammar, columns_sound, columns_limit, names_differ, one_id}
@@ -22,9 +23,9 @@ use Rattle.header.specs.Refusals.{Holds}
 use Rattle.header.proofs.TestsInWords.{one_text}
 use Rattle.header.proofs.InOrder.{one_length, all_hold_exactly}
 
--- the answer is `Accepted` exactly where no number is refused
-pub accepted_number : (q : Refusal) → (answered q ≡ Accepted) ↔ (q.number ≡ 0)
-accepted_number q = (
+-- x is given exactly where no number is refused
+pub accepted_number : {T : Type 0} → (q : Refusal) (x : T) → (unless q x ≡ Ok x) ↔ (q.number ≡ 0)
+accepted_number q x = (
   λ e. bool_cases (eqb q.number 0) (eqb-true q.number 0) (λ c. let w = rw c at e in clash (cc)),
   λ e. rw (eq-eqb q.number 0 e),
 )
@@ -82,11 +83,11 @@ module _ (file : List ℕ) where
     λ a. (all_hold_exactly file).1 (header_holds a.0 a.1),
   )
 
-  pub answer_accepted_exactly : ((header_of file).answer ≡ Accepted) ↔ ((h : Reading) × AcceptedHeader file h)
+  pub answer_accepted_exactly : (header_of file ≡ Ok (handed_on file)) ↔ ((h : Reading) × AcceptedHeader file h)
   unfolding header_of
   answer_accepted_exactly = (
-    λ e. accepted_exactly.0 ((accepted_number (header_refusal file)).0 e),
-    λ a. (accepted_number (header_refusal file)).1 (accepted_exactly.1 a),
+    λ e. accepted_exactly.0 ((accepted_number (header_refusal file) (handed_on file)).0 e),
+    λ a. (accepted_number (header_refusal file) (handed_on file)).1 (accepted_exactly.1 a),
   )
 
   -- WITH ONE READING

@@ -15,8 +15,8 @@ use Rattle.laws.proofs.LowestLaws.{bool_cases, lowest_cases}
 use Rattle.refusal.proofs.JudgedLaws.{none_found}
 use Rattle.grammar.specs.Words.{star, Column, Reading, Numeral, Count, WellFormedColumn, Reads}
 use Rattle.field.specs.declared.FieldType.{FieldType}
-use Rattle.field.specs.declared.Lookup.{Lookup}
-use Rattle.field.specs.declared.Lookup.TheVariants.{Is, Unlisted}
+use Rattle.std.specs.Prelude.{Option, Some, None}
+use Rattle.field.specs.declared.FieldType.{FieldType}
 use Rattle.field.specs.Fields.{type_of, count_right}
 use Rattle.header.specs.declared.Definition.{Definition}
 use Rattle.header.specs.Places.{decimal, place_after, column}
@@ -90,8 +90,8 @@ module _ (s : List ℕ) (p : ℕ) (c : Column) (d : Definition) (w : Shows s p c
       let n = numeral_shown v in
       rw (n.0, n.1) (λ e. inr (v, e), ⊎_elim (λ h. absurd (numeral_not-star (subst Numeral h.0 v))) (λ h. h.1))
 
-  sound_as_lem : (l : Lookup) → type_of c.type ≡ l → Count c.count → (sound_as l d ≡ true) ↔ ColumnSound c
-  sound_as_lem (Is t) e k = (
+  sound_as_lem : (l : Option FieldType) → type_of c.type ≡ l → Count c.count → (sound_as l d ≡ true) ↔ ColumnSound c
+  sound_as_lem (Some t) e k = (
     λ q.
         let b = both_true (key_listed d.key) (count_right t d.star d.count) q in
         record {
@@ -105,7 +105,7 @@ module _ (s : List ℕ) (p : ℕ) (c : Column) (d : Definition) (w : Shows s p c
         let same : t ≡ h.kind = cc (e, h.listed) in
         rw (w.key, (key_exactly c.key).1 h.key, same) ((count_exactly h.kind k).1 h.count),
   )
-  sound_as_lem Unlisted e k = (λ q. absurd (true≢false (sym q)), λ h. clash (cc (e, h.listed)))
+  sound_as_lem None e k = (λ q. absurd (true≢false (sym q)), λ h. clash (cc (e, h.listed)))
 
   pub sound_exactly : Count c.count → (sound d ≡ true) ↔ ColumnSound c
   unfolding sound

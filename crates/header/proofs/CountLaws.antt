@@ -1,10 +1,10 @@
 -- A count of at most five bytes: one turn of its loop, and how great it can be.
-use mathlib.Core.Path.{◌≡◌}
+use mathlib.Core.Path.{◌≡◌, ◌∙◌}
 use mathlib.Core.Logic.{by_cases}
 use mathlib.Core.List.{List, [], ◌∷◌}
-use Prim.Native.Nat.{ℕ, suc, ◌+◌, ◌-◌, ◌*◌, ◌≤◌, ◌<◌}
+use Prim.Native.Nat.{ℕ, suc, min, ◌+◌, ◌-◌, ◌*◌, ◌≤◌, ◌<◌}
 use native.Mathlib.Omega.{arith}
-use native.Mathlib.Nat.{mul-le-mul}
+use native.Mathlib.Nat.{mul-le-mul, min-eq_left, min-eq_right, le_of_lt}
 use native.Mathlib.Numerals.{add-one}
 use native.Mathlib.Decide.{dec_lt}
 use lib.ListN.{length, get_or, take, drop, length-take, get_or-eq_default}
@@ -55,13 +55,14 @@ module _ (s : List ℕ) (p e : ℕ) where
       )
 
   -- at most five bytes count
-  pub count_short : e ≤ p + 5 → decimal 0 (take (e - p) (drop p s)) ≡ count_of s p e
+  pub count_cut : (m : ℕ) → m ≡ min e (p + 5) → decimal 0 (take (m - p) (drop p s)) ≡ count_of s p e
   unfolding count_of
-  count_short h = rw (take_all 5 (take (e - p) (drop p s)) (omega (arith, length-take (e - p) (drop p s))))
-
-  pub count_long : p + 5 < e → decimal 0 (take (p + 5 - p) (drop p s)) ≡ count_of s p e
-  unfolding count_of
-  count_long h = let z : p + 5 - p ≡ 5 = omega arith in rw (z, take-take 5 (e - p) (drop p s) (omega arith))
+  count_cut m h =
+      by_cases (dec_lt (p + 5) e)
+      (λ c. let q : m - p ≡ 5 = omega (arith, h ∙ min-eq_right (le_of_lt c)) in rw (q, take-take 5 (e - p) (drop p s) (omega arith)))
+      (λ c.
+      let q : m ≡ e = h ∙ min-eq_left (omega arith) in
+      rw (q, take_all 5 (take (e - p) (drop p s)) (omega (arith, length-take (e - p) (drop p s)))))
 
 -- a count of elements, none wider than the widest
 pub size_room : (n w : ℕ) → n ≤ most_count → w ≤ widest → n * w ≤ sound_size

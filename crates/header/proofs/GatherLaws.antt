@@ -6,27 +6,31 @@ use mathlib.Core.List.{List, ◌++◌}
 use Prim.Native.Nat.{ℕ, zero, suc, pred, ◌+◌, ◌-◌, ◌≤◌, ◌<◌}
 use native.Mathlib.Omega.{arith}
 use native.Mathlib.Numerals.{add-one}
-use borrow.Author.Tests.{eq-eqb, ne_eqb, leb-true, eqb-true, not-false}
+use borrow.Author.Tests.{ne_eqb, leb-true, eqb-true, not-false}
 use lib.Dec.{eqb, ltb}
 use lib.ListN.{get_or, set, replicate}
 use Rattle.laws.specs.Lowest.{lowest, None}
 use Rattle.laws.specs.Buffer.{one_to}
 use Rattle.laws.proofs.LowestLaws.{bool_cases, lowest_ext, lowest_cases, lowest-pos, lowest_is, lowest-zero, lowest_found, lowest_nothing}
 use Rattle.laws.proofs.BufferLaws.{one_to_next, get_or-one_to}
+use Rattle.laws.proofs.TestLaws.{clash}
 use Rattle.limits.specs.Limits.{most_columns}
-use Rattle.refusal.specs.Order.{refused_if, refuses, located, at_row, lowest_of}
+use Rattle.refusal.specs.Order.{refusal, refused_if, refuses, located, at_row, lowest_of}
 use Rattle.refusal.proofs.OrderLaws.{located-zero, located-at}
-use Rattle.field.specs.declared.Lookup as look
+use Rattle.std.specs.Prelude.{Option, Some, None as Nothing, Result, Ok, Err}
+use Rattle.field.specs.declared.FieldType.{FieldType}
+use Rattle.refusal.specs.declared.Refusal.{Refusal}
 use Rattle.field.specs.Fields.{type_of, star_of, is_integer, most_count, in_range, count_right}
 use Rattle.field.proofs.TableRule.{letter_of_type}
 use Rattle.header.specs.declared.Definition.{Definition}
 use Rattle.header.specs.declared.ColumnLayout.{ColumnLayout}
 use Rattle.header.specs.declared.Kept.{Kept}
 use Rattle.header.specs.Places.{definition, first_place, place_after, column}
-use Rattle.header.specs.Names.{names_from, names_of}
+use Rattle.header.specs.declared.NameSpan.{NameSpan}
+use Rattle.header.specs.Names.{span_of, no_span, names_of}
 use Rattle.header.specs.Judge.{key_p, key_listed, sound_as, sound, column_refusal, id_sound, other_key_p, id_column, id_wrong}
 use Rattle.header.specs.Layouts.{kind_of, count_kept, some_varies, bytes_of_all, column_layout, blank_column, laid_out, row_width}
-use Rattle.header.specs.Serving.Stages.{unsound, kept_of, none_kept, gathered_as, gathered_of, id_laid, other_key_in, id_wrong_at, id_wrong_in}
+use Rattle.header.specs.Serving.Stages.{unsound, kept_of, gathered_as, gathered_of, id_laid, other_key_in, id_wrong_at, id_wrong_in}
 use Rattle.header.proofs.PlaceLaws.{is_column}
 
 -- ---- a sound definition
@@ -42,19 +46,19 @@ count_small : (n : ℕ) (many : Bool) → cond many (in_range n) (eqb n 1) ≡ t
 count_small n true e = bool_cases (eqb n 0) (λ t. let z = eqb-true n 0 t in omega (arith, z)) (λ t. leb-true n most_count (rw t at e))
 count_small n false e = let z = eqb-true n 1 e in omega (arith, z)
 
-count_as : (l : look.Lookup) (d : Definition) → sound_as l d ≡ true → d.star ≡ false → d.count ≤ most_count
+count_as : (l : Option FieldType) (d : Definition) → sound_as l d ≡ true → d.star ≡ false → d.count ≤ most_count
 unfolding count_right
-count_as (look.TheVariants.Is t) d e f = count_small d.count (star_of t) (rw f at (listed_key (key_listed d.key) _ e))
-count_as look.TheVariants.Unlisted d e f = never e
+count_as (Some t) d e f = count_small d.count (star_of t) (rw f at (listed_key (key_listed d.key) _ e))
+count_as Nothing d e f = never e
 
 pub count-sound : (d : Definition) → sound d ≡ true → d.star ≡ false → d.count ≤ most_count
 unfolding sound
 count-sound d e f = count_as (type_of d.kind) d e f
 
 -- its letter is that of its type
-letter_as : (b : ℕ) (l : look.Lookup) (d : Definition) → type_of b ≡ l → sound_as l d ≡ true → is_integer (kind_of l) ≡ eqb b 73
-letter_as b (look.TheVariants.Is t) d q e = rw (letter_of_type b t q)
-letter_as b look.TheVariants.Unlisted d q e = never e
+letter_as : (b : ℕ) (l : Option FieldType) (d : Definition) → type_of b ≡ l → sound_as l d ≡ true → is_integer (kind_of l) ≡ eqb b 73
+letter_as b (Some t) d q e = rw (letter_of_type b t q)
+letter_as b Nothing d q e = never e
 
 integer_sound : (d : Definition) → sound d ≡ true → is_integer (kind_of (type_of d.kind)) ≡ eqb d.kind 73
 unfolding sound
@@ -66,38 +70,32 @@ module _ (s : List ℕ) (k at : ℕ) (d : Definition) (e : at ≡ place_after s 
   unsound_next b h = sym (ap not h ∙ ap (λ (x : Definition). not (sound x)) (is_column s k at d e q))
 
   module _ (h : k < most_columns) where
-    pub starts_next : (l : List ℕ) → l ≡ one_to (λ j. (column s j).name.start) k ++ replicate (most_columns - k) 0
-        → set l k d.name.start ≡ one_to (λ j. (column s j).name.start) (k + 1) ++ replicate (most_columns - (k + 1)) 0
-    starts_next l p = one_to_next (λ j. (column s j).name.start) l most_columns k 0 _ h p
-        (ap (λ (x : Definition). x.name.start) (is_column s k at d e q))
-
-    pub ends_next : (l : List ℕ) → l ≡ one_to (λ j. (column s j).name.end) k ++ replicate (most_columns - k) 0
-        → set l k d.name.end ≡ one_to (λ j. (column s j).name.end) (k + 1) ++ replicate (most_columns - (k + 1)) 0
-    ends_next l p = one_to_next (λ j. (column s j).name.end) l most_columns k 0 _ h p
-        (ap (λ (x : Definition). x.name.end) (is_column s k at d e q))
+    pub spans_next : (l : List NameSpan) → l ≡ one_to (span_of s) k ++ replicate (most_columns - k) no_span
+        → set l k (record { start = d.name.start; end = d.name.end }) ≡ one_to (span_of s) (k + 1) ++ replicate (most_columns - (k + 1)) no_span
+    spans_next l p = one_to_next (span_of s) l most_columns k no_span _ h p
+        (ap (λ (x : Definition). record { start = x.name.start; end = x.name.end }) (is_column s k at d e q))
 
     pub keys_next : (l : List ℕ) → l ≡ one_to (λ j. (column s j).key) k ++ replicate (most_columns - k) 0
         → set l k d.key ≡ one_to (λ j. (column s j).key) (k + 1) ++ replicate (most_columns - (k + 1)) 0
     keys_next l p = one_to_next (λ j. (column s j).key) l most_columns k 0 _ h p (ap (λ (x : Definition). x.key) (is_column s k at d e q))
 
 -- ---- the pass ends at a wrong column, or after the last
-pub gathered_wrong : (s : List ℕ) (n k : ℕ) → k < n → None (unsound s) k → unsound s (suc k) ≡ true → none_kept (k + 1) ≡ gathered_of s n
+pub gathered_wrong : (s : List ℕ) (n k : ℕ) → k < n → None (unsound s) k → unsound s (suc k) ≡ true
+    → (r : Refusal) → r ≡ refusal 4 (k + 1) → Err r ≡ gathered_of s n
 unfolding gathered_of
-gathered_wrong s n k l h t = rw (lowest_found (unsound s) n k l h t, add-one k)
+gathered_wrong s n k l h t r e = rw (lowest_found (unsound s) n k l h t, e, add-one k)
 
-module _ (s : List ℕ) (k : ℕ) (starts ends keys : List ℕ) (cols : List ColumnLayout) (bytes width first at : ℕ) (varying : Bool)
-    (S : starts ≡ one_to (λ j. (column s j).name.start) k ++ replicate (most_columns - k) 0)
-    (E : ends ≡ one_to (λ j. (column s j).name.end) k ++ replicate (most_columns - k) 0)
+module _ (s : List ℕ) (k : ℕ) (spans : List NameSpan) (keys : List ℕ) (cols : List ColumnLayout) (bytes width first at : ℕ) (varying : Bool)
+    (S : spans ≡ one_to (span_of s) k ++ replicate (most_columns - k) no_span)
     (K : keys ≡ one_to (λ j. (column s j).key) k ++ replicate (most_columns - k) 0)
     (C : cols ≡ laid_out s k ++ replicate (most_columns - k) blank_column)
     (B : bytes ≡ bytes_of_all s k) (Y : varying ≡ some_varies s k) (W : width ≡ cond varying 0 bytes)
     (F : first ≡ first_place s) (A : at ≡ place_after s k) where
-  all_kept : record { wrong = 0; names = names_from starts ends; keys = keys; cols = cols; width = width; first = first; after = at } ≡ kept_of s k
+  all_kept : record { names = record { spans = spans }; keys = keys; cols = cols; width = width; first = first; after = at } ≡ kept_of s k
   unfolding kept_of names_of row_width
   all_kept =
       (λ t. record {
-        wrong = 0;
-        names = names_from (S t) (E t);
+        names = record { spans = S t };
         keys = K t;
         cols = C t;
         width = (W ∙ (λ u. cond (Y u) 0 (B u))) t;
@@ -106,31 +104,33 @@ module _ (s : List ℕ) (k : ℕ) (starts ends keys : List ℕ) (cols : List Col
       })
 
   pub gathered_all : (n : ℕ) → k ≡ n → None (unsound s) k
-      → record { wrong = 0; names = names_from starts ends; keys = keys; cols = cols; width = width; first = first; after = at } ≡ gathered_of s n
+      → Ok (record { names = record { spans = spans }; keys = keys; cols = cols; width = width; first = first; after = at }) ≡ gathered_of s n
   unfolding gathered_of
-  gathered_all n q h = rw (← q, lowest_nothing (unsound s) k h) all_kept
+  gathered_all n q h = rw (← q, lowest_nothing (unsound s) k h) (ap Ok all_kept)
 
--- ---- what was gathered tells the lowest wrong column
-gathered_said : (s : List ℕ) (n r : ℕ) → (gathered_as s n r).wrong ≡ r
-unfolding kept_of
-gathered_said s n zero = refl
-gathered_said s n (suc r) = refl
+-- ---- what was gathered tells the lowest wrong column, or what is kept where there is none
+wrong_as : (s : List ℕ) (n k : ℕ) (r : Refusal) → gathered_as s n k ≡ Err r → (r ≡ refusal 4 k) × (k ≡ 0 → ⊥)
+wrong_as s n zero r h = clash (cc)
+wrong_as s n (suc k) r h = (cc, λ z. omega (arith, z))
 
-module _ (s : List ℕ) (m : ℕ) (kept : Kept) (e : kept ≡ gathered_of s m) where
-  pub wrong_is : kept.wrong ≡ lowest (unsound s) m
+kept_as : (s : List ℕ) (n k : ℕ) (kept : Kept) → gathered_as s n k ≡ Ok kept → (k ≡ 0) × (kept ≡ kept_of s n)
+kept_as s n zero kept h = (refl, cc)
+kept_as s n (suc k) kept h = clash (cc)
+
+module _ (s : List ℕ) (m : ℕ) (got : Result Kept Refusal) (e : got ≡ gathered_of s m) where
+  pub wrong_is : (r : Refusal) → got ≡ Err r → (r ≡ refusal 4 (lowest (unsound s) m)) × (lowest (unsound s) m ≡ 0 → ⊥)
   unfolding gathered_of
-  wrong_is = ap (λ (x : Kept). x.wrong) e ∙ gathered_said s m (lowest (unsound s) m)
+  wrong_is r h = wrong_as s m (lowest (unsound s) m) r (sym e ∙ h)
 
-  pub kept_is : lowest (unsound s) m ≡ 0 → kept ≡ kept_of s m
+  pub kept_is : (kept : Kept) → got ≡ Ok kept → (lowest (unsound s) m ≡ 0) × (kept ≡ kept_of s m)
   unfolding gathered_of
-  kept_is z = e ∙ ap (gathered_as s m) z
+  kept_is kept h = kept_as s m (lowest (unsound s) m) kept (sym e ∙ h)
 
-  -- and it is the lowest of more columns as well
-  pub wrong_of_more : (n : ℕ) → m ≤ n → (kept.wrong ≡ 0 → ⊥) → lowest (unsound s) n ≡ kept.wrong
-  wrong_of_more n l z =
-      let w = wrong_is in
-      let a = lowest-pos (unsound s) m (omega arith) in
-      lowest_is (unsound s) n (lowest (unsound s) m) a.pos (omega (arith, a.within)) a.passes a.below ∙ sym w
+-- and it is the lowest of more columns as well
+pub wrong_of_more : (s : List ℕ) (m n : ℕ) → m ≤ n → (lowest (unsound s) m ≡ 0 → ⊥) → lowest (unsound s) n ≡ lowest (unsound s) m
+wrong_of_more s m n l z =
+    let a = lowest-pos (unsound s) m (omega arith) in
+    lowest_is (unsound s) n (lowest (unsound s) m) a.pos (omega (arith, a.within)) a.passes a.below
 
 -- the names of what is kept
 pub kept_names : (s : List ℕ) (n : ℕ) (kept : Kept) → kept ≡ kept_of s n → kept.names ≡ names_of s n
@@ -162,10 +162,6 @@ pub key_tested : (keys : List ℕ) (id k : ℕ) (b : Bool) → b ≡ (eqb (get_o
 key_tested keys id k b h = rw (h, add-one k)
 
 module _ (kept : Kept) (n id : ℕ) where
-  pub kept_missing : id ≡ 0 → true ≡ id_wrong_in kept n id
-  unfolding id_wrong_in
-  kept_missing z = rw (eq-eqb id 0 z)
-
   pub kept_there : (id ≡ 0 → ⊥) → (b : Bool) → b ≡ id_wrong_at (get_or kept.cols (id - 1) blank_column) kept.keys n id → b ≡ id_wrong_in kept n id
   unfolding id_wrong_in
   kept_there z b e = let q : pred id ≡ id - 1 = omega arith in rw (ne_eqb id 0 z, q) e

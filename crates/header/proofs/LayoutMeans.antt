@@ -11,6 +11,7 @@ use borrow.Author.Tests.{eq-eqb, eqb-true}
 use lib.ListN.{length, get_or, replicate, length-append}
 use lib.Seq.{get_or_at, drop_at}
 use Rattle.laws.specs.Lowest.{In, Each}
+use Rattle.laws.proofs.TestLaws.{clash}
 use Rattle.laws.specs.Sums.{sum}
 use Rattle.laws.proofs.LowestLaws.{bool_cases}
 use Rattle.laws.proofs.SumLaws.{sum_ext, sum_part}
@@ -20,7 +21,7 @@ use Rattle.grammar.specs.Words.{star, Column, Reading, Numeral}
 use Rattle.field.specs.Letters.{letter_k}
 use Rattle.field.specs.declared.FieldType.{FieldType}
 use Rattle.field.specs.declared.FieldType.TheVariants.{Integer, Triplet}
-use Rattle.field.specs.declared.Lookup.TheVariants.{Is}
+use Rattle.std.specs.Prelude.{Some, Ok}
 use Rattle.field.specs.Fields.{letter_of, type_of, width_of, is_triplet}
 use Rattle.field.proofs.TableRule.{type_of-letter, letter_of_type}
 use Rattle.header.specs.declared.Definition.{Definition}
@@ -31,7 +32,8 @@ use Rattle.header.specs.Names.{same_text}
 use Rattle.limits.specs.Limits.{most_columns}
 use Rattle.header.specs.Judge.{order_of_file, text_length, head_of, id_name, id_column}
 use Rattle.header.specs.Layouts.{kind_of, varies, count_kept, field_size, some_varies, bytes_of_all, column_layout, blank_column, fixed_bytes, laid_out, row_width}
-use Rattle.header.specs.Layouts.{layout_of, blank_layout, header_of}
+use Rattle.header.specs.declared.Header.{Header}
+use Rattle.header.specs.Layouts.{layout_of, header_of}
 use Rattle.header.specs.Words.{column_at, OrderIs, Shows, AcceptedHeader}
 use Rattle.header.specs.Refusals.{RefusedWith}
 use Rattle.header.specs.LayoutWords.{Starred, Varies, layout_at, ColumnLaidOut, LaidOut}
@@ -39,11 +41,11 @@ use Rattle.header.proofs.ColumnsJudged.{numeral_not-star, shown, column_named_le
 use Rattle.header.proofs.TestsInWords.{order_of_file_lem, length_said}
 use Rattle.header.proofs.AcceptedExactly.{accepted_says}
 use Rattle.header.proofs.RefusedExactly.{refused_test}
-use Rattle.header.proofs.StepsInOrder.{accepted_test, head_reads, accepted_count}
+use Rattle.header.proofs.StepsInOrder.{head_reads, accepted_count}
 
 -- ---- a column that varies: `*`, or type K
 
-module _ (s : List ℕ) (p : ℕ) (c : Column) (d : Definition) (w : Shows s p c d) (t : FieldType) (e : type_of c.type ≡ Is t) where
+module _ (s : List ℕ) (p : ℕ) (c : Column) (d : Definition) (w : Shows s p c d) (t : FieldType) (e : type_of c.type ≡ Some t) where
   kind_is : kind_of (type_of d.kind) ≡ t
   kind_is = rw (w.type, e)
 
@@ -131,7 +133,7 @@ module _ (file : List ℕ) (h : Reading) (a : AcceptedHeader file h) where
       let p = place_after s (pred k) in
       let q = kind_is s p c d w t e in
       record {
-        kind = e ∙ ap Is (sym q);
+        kind = e ∙ ap Some (sym q);
         star = w.star;
         count = λ v. count_kept_lem s p c d w t e (λ z. numeral_not-star (subst Numeral z v)) ∙ w.count v;
         no_count = λ z. rw (w.star.1 z);
@@ -232,11 +234,10 @@ module _ (file : List ℕ) (h : Reading) (a : AcceptedHeader file h) where
       )
 
   -- THE LAYOUT MEANS WHAT THE READING SAYS
-  pub laid_out_lem : LaidOut file h (header_of file).layout
-  unfolding header_of
-  laid_out_lem = rw (accepted_test file h a, layout-counted) laid_out-counted
+  pub laid_out_lem : LaidOut file h (layout_of file)
+  laid_out_lem = rw layout-counted laid_out-counted
 
--- a refused header has a blank layout
-pub refused_blank : (file : List ℕ) (n p : ℕ) → RefusedWith file n p → (header_of file).layout ≡ blank_layout
+-- a refused header hands no layout on
+pub refused_no_layout : (file : List ℕ) (n p : ℕ) → RefusedWith file n p → (head : Header) → header_of file ≡ Ok head → ⊥
 unfolding header_of
-refused_blank file n p w = rw (refused_test file n p w)
+refused_no_layout file n p w head e = let q = rw (refused_test file n p w) at e in clash (cc)

@@ -1,8 +1,8 @@
 -- One turn of the search for a byte, and where the fields of a definition can lie.
-use mathlib.Core.Path.{◌≡◌, refl, sym, ap, ◌∙◌}
+use mathlib.Core.Path.{◌≡◌, refl, ap, ◌∙◌}
 use mathlib.Core.Logic.{by_cases}
 use mathlib.Core.List.{List, [], ◌∷◌}
-use Prim.Native.Nat.{ℕ, zero, suc, pred, ◌+◌, ◌-◌, ◌≤◌, ◌<◌}
+use Prim.Native.Nat.{ℕ, zero, suc, pred, ◌+◌, ◌≤◌, ◌<◌}
 use native.Mathlib.Omega.{arith}
 use native.Mathlib.Numerals.{add-one}
 use native.Mathlib.Decide.{dec_lt}
@@ -11,7 +11,6 @@ use lib.Dec.{eqb, ltb}
 use lib.ListN.{length, get_or, drop, length-drop, drop_of_length-le}
 use lib.Seq.{drop-cons}
 use Rattle.laws.proofs.LowestLaws.{bool_cases}
-use Rattle.laws.proofs.TestLaws.{cond_same}
 use Rattle.grammar.specs.Words.{semicolon, colon, equals, comma, star}
 use Rattle.header.specs.declared.Definition.{Definition}
 use Rattle.header.specs.Places.{before, seek, count_of, span, name_end, count_end, thematic_index_end, last_end, definition, first_place}
@@ -47,22 +46,9 @@ pub seek_next : (s : List ℕ) (p b : ℕ) → p < length s → (get_or s p 0 �
 seek_next s p b h e =
     rw (seek-at s p b (omega arith), seek-at s (p + 1) b (omega arith), drop-cons s p 0 h, ne_eqb (get_or s p 0) b e, add-one p) (omega arith)
 
--- where a last name ends, by the byte before its colon at e
-module _ (s : List ℕ) (e : ℕ) where
-  pub last_at_0 : e ≡ 0 → 0 ≡ last_end s e
-  last_at_0 z = rw z (sym (cond_same (eqb (get_or s 0 0) comma) 0))
-
-  pub last_le : e ≤ length s → last_end s e ≤ length s
-  last_le h = let q : pred e ≤ length s = omega arith in bool_cases (eqb (get_or s (pred e) 0) comma) (λ t. rw t q) (λ t. rw t h)
-
-  same_place : e - 1 ≡ pred e
-  same_place = omega arith
-
-  pub last_at-comma : get_or s (e - 1) 0 ≡ comma → e - 1 ≡ last_end s e
-  last_at-comma h = rw (eq-eqb (get_or s (pred e) 0) comma (ap (λ (k : ℕ). get_or s k 0) (sym same_place) ∙ h)) same_place
-
-  pub last_at-colon : (get_or s (e - 1) 0 ≡ comma → ⊥) → e ≡ last_end s e
-  last_at-colon h = rw (ne_eqb (get_or s (pred e) 0) comma (λ z. h (ap (λ (k : ℕ). get_or s k 0) same_place ∙ z)))
+-- a last name ends inside the head
+pub last_le : (s : List ℕ) (e : ℕ) → e ≤ length s → last_end s e ≤ length s
+last_le s e h = let q : pred e ≤ length s = omega arith in bool_cases (eqb (get_or s (pred e) 0) comma) (λ t. rw t q) (λ t. rw t h)
 
 -- a name ends in the head, wherever its definition is read, and starts there
 pub name_within : (s : List ℕ) (p : ℕ) → (definition s p).name.end ≤ length s

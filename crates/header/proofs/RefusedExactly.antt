@@ -3,28 +3,28 @@ use mathlib.Core.Path.{◌≡◌, sym, ap, ◌∙◌}
 use mathlib.Core.Logic.{◌↔◌}
 use mathlib.Core.Bool.{false}
 use mathlib.Core.List.{List}
+use Rattle.std.specs.Prelude.{Err}
 use Prim.Native.Nat.{ℕ}
 use borrow.Author.Tests.{eqb-false, ne_eqb}
 use lib.Dec.{eqb}
 use Rattle.laws.proofs.LowestLaws.{bool_cases}
 use Rattle.laws.proofs.TestLaws.{clash}
 use Rattle.refusal.specs.declared.Refusal.{Refusal}
-use Rattle.refusal.specs.Order.{refusal}
+use Rattle.refusal.specs.Order.{refusal, unless}
 use Rattle.grammar.specs.Words.{Reading}
-use Rattle.header.specs.declared.Answer.TheVariants.{Refused}
-use Rattle.header.specs.Judge.{header_refusal, answered}
-use Rattle.header.specs.Layouts.{header_of}
+use Rattle.header.specs.Judge.{header_refusal}
+use Rattle.header.specs.Layouts.{handed_on, header_of}
 use Rattle.header.specs.Words.{AcceptedHeader}
 use Rattle.header.specs.Refusals.{RefusedWith}
 use Rattle.header.proofs.InOrder.{first_fails_exactly}
 use Rattle.header.proofs.AcceptedExactly.{accepted_exactly}
 
 -- the answer is a refusal exactly where a number is refused
-pub refused-number : (q r : Refusal) → (answered q ≡ Refused r) ↔ ((q ≡ r) × (r.number ≡ 0 → ⊥))
-refused-number q r = (
+pub refused-number : {T : Type 0} → (q r : Refusal) (x : T) → (unless q x ≡ Err r) ↔ ((q ≡ r) × (r.number ≡ 0 → ⊥))
+refused-number q r x = (
   λ e.
       bool_cases (eqb q.number 0) (λ c. let w = rw c at e in clash (cc))
-      (λ c. let w = rw c at e in let s : q ≡ r = cc in (s, λ z. eqb-false q.number 0 c (ap (λ (x : Refusal). x.number) s ∙ z))),
+      (λ c. let w = rw c at e in let s : q ≡ r = cc in (s, λ z. eqb-false q.number 0 c (ap (λ (y : Refusal). y.number) s ∙ z))),
   λ h. rw (h.0, ne_eqb r.number 0 h.1),
 )
 
@@ -32,11 +32,11 @@ module _ (file : List ℕ) (n p : ℕ) where
   pub refused-exactly : ((header_refusal file ≡ refusal n p) × (n ≡ 0 → ⊥)) ↔ RefusedWith file n p
   refused-exactly = first_fails_exactly file n p
 
-  pub answer_refused_exactly : ((header_of file).answer ≡ Refused (refusal n p)) ↔ RefusedWith file n p
+  pub answer_refused_exactly : (header_of file ≡ Err (refusal n p)) ↔ RefusedWith file n p
   unfolding header_of
   answer_refused_exactly = (
-    λ e. refused-exactly.0 ((refused-number (header_refusal file) (refusal n p)).0 e),
-    λ w. (refused-number (header_refusal file) (refusal n p)).1 (refused-exactly.1 w),
+    λ e. refused-exactly.0 ((refused-number (header_refusal file) (refusal n p) (handed_on file)).0 e),
+    λ w. (refused-number (header_refusal file) (refusal n p) (handed_on file)).1 (refused-exactly.1 w),
   )
 
 -- the test that every operation over a header asks first

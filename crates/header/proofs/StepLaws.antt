@@ -11,7 +11,7 @@ use Rattle.laws.proofs.LowestLaws.{none_next, lowest_found, lowest_nothing}
 use Rattle.refusal.specs.declared.Refusal.{Refusal}
 use Rattle.refusal.specs.Order.{refusal}
 use Rattle.header.specs.declared.Definition.{Definition}
-use Rattle.header.specs.declared.Step.TheVariants.{Column, Done, Refused}
+use Rattle.std.specs.Prelude.{Ok, Err, Some, None as Nothing}
 use Rattle.header.specs.Places.{definition, place_after}
 use Rattle.header.specs.Serving.Stages.{step_in}
 
@@ -25,7 +25,7 @@ module _ (s : List ℕ) (place k : ℕ) (h : None (stands_at s place) k) where
     pub not_here : (place ≡ at → ⊥) → None (stands_at s place) (k + 1)
     not_here n = none_next (stands_at s place) k h (ne_eqb (place_after s k) place (λ q. n (sym q ∙ sym e)))
 
-    pub step_column : (n : ℕ) (d : Definition) → k < n → place ≡ at → d ≡ definition s place → Column d ≡ step_in s n place
+    pub step_column : (n : ℕ) (d : Definition) → k < n → place ≡ at → d ≡ definition s place → Ok (Some d) ≡ step_in s n place
     unfolding step_in
     step_column n d l p q =
         let t : stands_at s place (suc k) ≡ true = eq-eqb (place_after s k) place (sym e ∙ sym p) in
@@ -36,10 +36,10 @@ module _ (s : List ℕ) (place k : ℕ) (h : None (stands_at s place) k) where
     nothing : lowest (stands_at s place) n ≡ 0
     nothing = let q : n ≡ k = omega arith in rw q (lowest_nothing (stands_at s place) k h)
 
-    pub step_done : place ≡ after → Done ≡ step_in s n place
+    pub step_done : place ≡ after → Ok Nothing ≡ step_in s n place
     unfolding step_in
     step_done p = rw (nothing, ← e, eq-eqb place after p)
 
-    pub step_none : (r : Refusal) → (place ≡ after → ⊥) → r ≡ refusal 13 place → Refused r ≡ step_in s n place
+    pub step_none : (r : Refusal) → (place ≡ after → ⊥) → r ≡ refusal 13 place → Err r ≡ step_in s n place
     unfolding step_in
     step_none r p q = rw (nothing, ← e, ne_eqb place after p, q)

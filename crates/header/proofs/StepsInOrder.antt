@@ -19,7 +19,7 @@ use Rattle.grammar.specs.Words as words
 use Rattle.grammar.specs.Words.{semicolon, printed_mark, printed_column, Reading, Reads}
 use Rattle.header.specs.declared.Span.{Span}
 use Rattle.header.specs.declared.Definition.{Definition}
-use Rattle.header.specs.declared.Step.TheVariants.{Column, Done, Refused}
+use Rattle.std.specs.Prelude.{Ok, Err, Some, None}
 use Rattle.header.specs.Places.{part, definition, place_after, column}
 use Rattle.header.specs.Judge.{head_of, text_of, text_length, column_count, header_refusal}
 use Rattle.header.specs.Steps.{starts_at, step_from, step_of, place_of, start_of}
@@ -63,9 +63,9 @@ abbrev pub stepped : List ℕ → ℕ → ℕ → ℕ
 stepped file k p = iterate (λ q. place_of q (step_of file q)) k p
 
 -- ---- a refused header
-pub refused_everywhere : (file : List ℕ) (n p : ℕ) → RefusedWith file n p → (place : ℕ) → step_of file place ≡ Refused (refusal n p)
+pub refused_everywhere : (file : List ℕ) (n p : ℕ) → RefusedWith file n p → (place : ℕ) → step_of file place ≡ Err (refusal n p)
 unfolding step_of
-refused_everywhere file n p w place = rw (refused_test file n p w) (ap Refused ((refused-exactly file n p).1 w).0)
+refused_everywhere file n p w place = rw (refused_test file n p w) (ap Err ((refused-exactly file n p).1 w).0)
 
 pub refused_start : (file : List ℕ) (n p : ℕ) → RefusedWith file n p → start_of file ≡ 0
 unfolding start_of
@@ -111,12 +111,12 @@ module _ (file : List ℕ) (h : Reading) (a : AcceptedHeader file h) where
   unfolding place_after
   start-place = start_is_first ∙ first_place_lem head h head_reads
 
-  found : (place r : ℕ) → 0 < r → step_from head columns place r ≡ Column (definition head place)
+  found : (place r : ℕ) → 0 < r → step_from head columns place r ≡ Ok (Some (definition head place))
   found place zero l = absurd (omega arith)
   found place (suc r) l = refl
 
   -- A STEP at the place after k columns gives column k + 1
-  pub column_step : (k : ℕ) → k < columns → step_of file (place_after head k) ≡ Column (column head (suc k))
+  pub column_step : (k : ℕ) → k < columns → step_of file (place_after head k) ≡ Ok (Some (column head (suc k)))
   column_step k l =
       accepted_step (place_after head k)
       ∙ found (place_after head k) (starts_at head columns (place_after head k))
@@ -133,7 +133,7 @@ module _ (file : List ℕ) (h : Reading) (a : AcceptedHeader file h) where
       (λ j l m. ne_eqb (place_after head (pred j)) place (λ e. no_place (pred j) (omega arith) (sym e)))
 
   -- THE END, after the last
-  pub done_step : step_of file (place_after head columns) ≡ Done
+  pub done_step : step_of file (place_after head columns) ≡ Ok None
   done_step =
       let p = place_after head columns in
       let z = not_started p (λ k l e. omega (arith, places_ascend k columns l (omega arith))) in
@@ -143,7 +143,7 @@ module _ (file : List ℕ) (h : Reading) (a : AcceptedHeader file h) where
   done_place = last_stands head h head_reads
 
   -- 13 AT EVERY OTHER PLACE, and the reader stays
-  pub step_elsewhere : (place : ℕ) → ((k : ℕ) → k ≤ columns → place ≡ place_after head k → ⊥) → step_of file place ≡ Refused (refusal 13 place)
+  pub step_elsewhere : (place : ℕ) → ((k : ℕ) → k ≤ columns → place ≡ place_after head k → ⊥) → step_of file place ≡ Err (refusal 13 place)
   step_elsewhere place no_place =
       let z = not_started place (λ k l. no_place k (omega arith)) in
       accepted_step place ∙ rw (z, ne_eqb place (place_after head columns) (no_place columns (omega arith)))
@@ -156,7 +156,7 @@ module _ (file : List ℕ) (h : Reading) (a : AcceptedHeader file h) where
 
   -- THE COLUMNS OF THE READING IN ORDER: the step after k others gives a definition that shows column k + 1
   pub steps_give_columns : (k : ℕ) → k < columns
-      → (d : Definition) × (step_of file (stepped file k (start_of file)) ≡ Column d)
+      → (d : Definition) × (step_of file (stepped file k (start_of file)) ≡ Ok (Some d))
       × Shows file (stepped file k (start_of file)) (column_at h (suc k)) d
   steps_give_columns k l =
       rw (place_after_steps k (omega arith)) (column head (suc k), column_step k l, step_shows k l)
@@ -176,5 +176,5 @@ module _ (file : List ℕ) (h : Reading) (a : AcceptedHeader file h) where
       (λ c. let e : suc k ≡ columns = omega arith in place_after_steps (suc k) c ∙ ap (place_after head) e)
       (λ c. rw (steps_stay k (omega arith), done_step))
 
-  pub steps_end : (k : ℕ) → columns ≤ k → step_of file (stepped file k (start_of file)) ≡ Done
+  pub steps_end : (k : ℕ) → columns ≤ k → step_of file (stepped file k (start_of file)) ≡ Ok None
   steps_end k l = ap (step_of file) (steps_stay k l) ∙ done_step

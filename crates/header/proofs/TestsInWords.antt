@@ -17,12 +17,10 @@ use Rattle.refusal.specs.Order.{refused_if, located, lowest_of}
 use Rattle.refusal.proofs.JudgedLaws.{Judged, judged_lowest, judged_lowest_of, judged_once}
 use Rattle.number.specs.declared.Order.{Order}
 use Rattle.number.specs.declared.Order.TheVariants.{Least, Most}
-use Rattle.number.specs.declared.OrderLetter.TheVariants.{Is, Unlisted}
+use Rattle.std.specs.Prelude.{Some, None, Ok, Err}
 use Rattle.number.specs.Bytes.{order_of}
 use Rattle.grammar.specs.Words.{Reading, Reads}
-use Rattle.grammar.specs.declared.Scan.{Scan}
-use Rattle.grammar.specs.declared.Scan.TheVariants.{Columns, BadByte}
-use Rattle.grammar.specs.Scan.{scan_of}
+use Rattle.grammar.specs.Scan.{Scan, scan_of}
 use Rattle.grammar.proofs.GrammarExact.{grammar_exact}
 use Rattle.grammar.proofs.FirstBadByte.{first_bad_byte}
 use Rattle.grammar.proofs.OneReading.{reads_once}
@@ -39,13 +37,13 @@ use Rattle.header.proofs.ColumnsJudged.{sound_at, named_exactly, id_exactly}
 
 -- ---- the order that byte 4 gives
 
-pub order_is : (b : ℕ) (o : Order) → OrderIs b o → order_of b ≡ Is o
+pub order_is : (b : ℕ) (o : Order) → OrderIs b o → order_of b ≡ Some o
 unfolding order_of
 order_is b o by_l = refl
 order_is b o by_m = refl
 order_is b o by_none = refl
 
-is_order : (b : ℕ) → ((o : Order) × OrderIs b o) ⊎ (order_of b ≡ Unlisted)
+is_order : (b : ℕ) → ((o : Order) × OrderIs b o) ⊎ (order_of b ≡ None)
 unfolding order_of
 is_order b =
     bool_cases (eqb b 76) (λ t. inl (Least, subst (λ (x : ℕ). OrderIs x Least) (sym (eqb-true b 76 t)) by_l))
@@ -129,8 +127,8 @@ module _ (file : List ℕ) where
     -- ---- 3
 
     judged_scan : (c : Scan) → scan_of (text_of file) ≡ c → Judged (grammar_refusal c) (Holds file in_grammar) (FailsAt file in_grammar)
-    judged_scan (Columns n) e = let r = (grammar_exact n (text_of file)).0 e in inl (refl, (r.0, text_reads r.0 w r.1))
-    judged_scan (BadByte i) e =
+    judged_scan (Ok n) e = let r = (grammar_exact n (text_of file)).0 e in inl (refl, (r.0, text_reads r.0 w r.1))
+    judged_scan (Err i) e =
         inr (
           λ z. omega arith,
           (

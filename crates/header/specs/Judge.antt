@@ -1,5 +1,5 @@
 -- "Table order: 1, 2, 1, 15, 3 over the whole text, 4 by column, 5, 6": the tests of a header, and the answer.
-use Rattle.std.specs.Prelude.{Bool, true, false, cond, not, ◌&&◌, ◌||◌, List, [], ◌∷◌, ℕ, ◌+◌, eqb, ltb, length, get_or, take, drop}
+use Rattle.std.specs.Prelude.{Bool, true, false, cond, not, ◌&&◌, ◌||◌, List, [], ◌∷◌, ℕ, ◌+◌, eqb, ltb, length, get_or, take, drop, Option, Some, None, Result, Ok, Err}
 use Rattle.laws.specs.Lowest.{lowest}
 use Rattle.laws.specs.Texts.{bytes}
 use Rattle.refusal.specs.declared.Refusal.{Refusal}
@@ -7,17 +7,11 @@ use Rattle.refusal.specs.Order.{refusal, fine, refused_if, located, lowest_of, f
 use Rattle.limits.specs.Limits.{most_text, most_columns}
 use Rattle.number.specs.declared.Order.{Order}
 use Rattle.number.specs.declared.Order.TheVariants.{Least}
-use Rattle.number.specs.declared.OrderLetter.{OrderLetter}
-use Rattle.number.specs.declared.OrderLetter.TheVariants.{Is, Unlisted}
 use Rattle.number.specs.Bytes.{order_of, number}
-use Rattle.grammar.specs.declared.Scan.{Scan}
-use Rattle.grammar.specs.declared.Scan.TheVariants.{Columns, BadByte}
-use Rattle.grammar.specs.Scan.{scan_of}
-use Rattle.field.specs.declared.Lookup as look
+use Rattle.grammar.specs.Scan.{Scan, scan_of}
+use Rattle.field.specs.declared.FieldType.{FieldType}
 use Rattle.field.specs.Fields.{type_of, count_right}
 use Rattle.header.specs.declared.Definition.{Definition}
-use Rattle.header.specs.declared.Answer.{Answer}
-use Rattle.header.specs.declared.Answer.TheVariants.{Accepted, Refused}
 use Rattle.header.specs.Places.{column}
 use Rattle.header.specs.Names.{named_before, column_named}
 
@@ -25,13 +19,13 @@ use Rattle.header.specs.Names.{named_before, column_named}
 abbrev pub order_byte : List ℕ → ℕ
 order_byte file = get_or file 4 0
 
-abbrev pub listed : OrderLetter → Bool
-listed (Is o) = true
-listed Unlisted = false
+abbrev pub listed : Option Order → Bool
+listed (Some o) = true
+listed None = false
 
-abbrev pub or_else_least : OrderLetter → Order
-or_else_least (Is o) = o
-or_else_least Unlisted = Least
+abbrev pub or_else_least : Option Order → Order
+or_else_least (Some o) = o
+or_else_least None = Least
 
 unfoldable pub order_of_file : List ℕ → Order
 order_of_file file = or_else_least (order_of (order_byte file))
@@ -49,12 +43,12 @@ text_of file = drop 4 (head_of file)
 
 -- 3 at "first byte that cannot continue, or L + 4": places count from the file's first byte
 abbrev pub grammar_refusal : Scan → Refusal
-grammar_refusal (Columns n) = fine
-grammar_refusal (BadByte i) = refusal 3 (i + 4)
+grammar_refusal (Ok n) = fine
+grammar_refusal (Err i) = refusal 3 (i + 4)
 
 abbrev pub columns_of : Scan → ℕ
-columns_of (Columns n) = n
-columns_of (BadByte i) = 0
+columns_of (Ok n) = n
+columns_of (Err i) = 0
 
 unfoldable pub column_count : List ℕ → ℕ
 column_count file = columns_of (scan_of (text_of file))
@@ -67,9 +61,9 @@ unfoldable pub key_listed : ℕ → Bool
 key_listed b = cond (eqb b key_p) true (cond (eqb b 85) true (eqb b 78))
 
 -- "Letters not listed, keys other than P, U, N, and counts above 65,535 or wrong for the type are 4."
-abbrev pub sound_as : look.Lookup → Definition → Bool
-sound_as (look.TheVariants.Is t) d = cond (key_listed d.key) (count_right t d.star d.count) false
-sound_as look.TheVariants.Unlisted d = false
+abbrev pub sound_as : Option FieldType → Definition → Bool
+sound_as (Some t) d = cond (key_listed d.key) (count_right t d.star d.count) false
+sound_as None d = false
 
 unfoldable pub sound : Definition → Bool
 sound d = sound_as (type_of d.kind) d
@@ -111,6 +105,3 @@ tests file =
 -- THE HEADER'S JUDGEMENT
 unfoldable pub header_refusal : List ℕ → Refusal
 header_refusal file = first_of (tests file)
-
-abbrev pub answered : Refusal → Answer
-answered q = cond (eqb q.number 0) Accepted (Refused q)

@@ -1,11 +1,10 @@
 -- What a row needs of the header, in the words of the reading.
-use Rattle.std.specs.Prelude.{◌≡◌, ◌⊎◌, ◌↔◌, true, List, [], ◌∷◌, ℕ, pred, ◌+◌, ◌-◌, ◌≤◌, length, get_or, replicate, drop}
+use Rattle.std.specs.Prelude.{◌≡◌, ◌⊎◌, ◌↔◌, true, List, [], ◌∷◌, ℕ, pred, ◌+◌, ◌-◌, ◌≤◌, length, get_or, replicate, drop, Some}
 use Rattle.laws.specs.Lowest.{In, Each}
 use Rattle.laws.specs.Sums.{sum}
 use Rattle.number.specs.Bytes.{number}
 use Rattle.grammar.specs.Words.{star, Column, Reading, Numeral}
 use Rattle.field.specs.Letters.{letter_k}
-use Rattle.field.specs.declared.Lookup.TheVariants.{Is}
 use Rattle.field.specs.Fields.{type_of}
 use Rattle.header.specs.declared.ColumnLayout.{ColumnLayout}
 use Rattle.header.specs.declared.Layout.{Layout}
@@ -30,7 +29,7 @@ layout_at l k = get_or l.cols (pred k) blank_column
 
 -- the layout of a column says its type, its star and its count, which is 0 for a star; a field that varies has no fixed bytes
 pub record ColumnLaidOut (c : Column) (l : ColumnLayout) : Type 0 where
-  pub kind : type_of c.type ≡ Is l.kind
+  pub kind : type_of c.type ≡ Some l.kind
   pub star : (l.star ≡ true) ↔ Starred c
   pub count : Numeral c.count → l.count ≡ decimal 0 c.count
   pub no_count : Starred c → l.count ≡ 0

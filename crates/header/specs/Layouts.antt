@@ -1,24 +1,24 @@
 -- What a row needs of the header, by value: "so that nothing parses text per row".
-use Rattle.std.specs.Prelude.{Bool, true, false, cond, List, ◌++◌, ℕ, zero, suc, pred, ◌+◌, ◌-◌, ◌*◌, eqb, replicate}
+use Rattle.std.specs.Prelude.{Bool, true, false, cond, List, ◌++◌, ℕ, zero, suc, pred, ◌+◌, ◌-◌, ◌*◌, replicate, Option, Some, None, Result}
 use Rattle.laws.specs.Buffer.{one_to}
-use Rattle.number.specs.declared.Order.TheVariants.{Least}
+use Rattle.refusal.specs.declared.Refusal.{Refusal}
 use Rattle.field.specs.declared.FieldType.{FieldType}
 use Rattle.field.specs.declared.FieldType.TheVariants.{Text}
-use Rattle.field.specs.declared.Lookup as look
 use Rattle.field.specs.Fields.{type_of, width_of, is_triplet}
 use Rattle.header.specs.declared.Definition.{Definition}
 use Rattle.header.specs.declared.ColumnLayout.{ColumnLayout}
 use Rattle.header.specs.declared.Layout.{Layout}
 use Rattle.header.specs.declared.Header.{Header}
 use Rattle.header.specs.Places.{column}
-use Rattle.header.specs.Names.{names_of, no_names}
+use Rattle.header.specs.Names.{names_of}
 use Rattle.limits.specs.Limits.{most_columns}
-use Rattle.header.specs.Judge.{order_of_file, text_length, head_of, column_count, id_column, header_refusal, answered}
+use Rattle.refusal.specs.Order.{unless}
+use Rattle.header.specs.Judge.{order_of_file, text_length, head_of, column_count, id_column, header_refusal}
 
 -- the type of a listed letter; text for the others, which no accepted header has
-abbrev pub kind_of : look.Lookup → FieldType
-kind_of (look.TheVariants.Is t) = t
-kind_of look.TheVariants.Unlisted = Text
+abbrev pub kind_of : Option FieldType → FieldType
+kind_of (Some t) = t
+kind_of None = Text
 
 -- "Without a `*` or K column all rows have one width": a field of this definition has no fixed width
 unfoldable pub varies : Definition → Bool
@@ -79,14 +79,10 @@ layout_of file =
       cols = laid_out (head_of file) (column_count file) ++ replicate (most_columns - column_count file) blank_column;
     }
 
-abbrev pub blank_layout : Layout
-blank_layout = record { order = Least; start = 0; columns = 0; id = 0; width = 0; cols = replicate most_columns blank_column }
+-- what an accepted header hands on: its layout, and where its names lie
+abbrev pub handed_on : List ℕ → Header
+handed_on file = record { layout = layout_of file; names = names_of (head_of file) (column_count file) }
 
--- THE HEADER: the answer, and on acceptance its layout and where its names lie
-unfoldable pub header_of : List ℕ → Header
-header_of file =
-    record {
-      answer = answered (header_refusal file);
-      layout = cond (eqb (header_refusal file).number 0) (layout_of file) blank_layout;
-      names = cond (eqb (header_refusal file).number 0) (names_of (head_of file) (column_count file)) no_names;
-    }
+-- THE HEADER: what it hands on, or the refusal, which hands on nothing
+unfoldable pub header_of : List ℕ → Result Header Refusal
+header_of file = unless (header_refusal file) (handed_on file)

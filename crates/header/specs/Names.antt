@@ -3,6 +3,7 @@ use Rattle.std.specs.Prelude.{Bool, true, false, cond, ◌&&◌, List, [], ◌�
 use Rattle.laws.specs.Lowest.{lowest}
 use Rattle.laws.specs.Buffer.{one_to}
 use Rattle.limits.specs.Limits.{most_columns}
+use Rattle.header.specs.declared.NameSpan.{NameSpan}
 use Rattle.header.specs.declared.Names.{Names}
 use Rattle.header.specs.Places.{part, span, column}
 
@@ -36,23 +37,23 @@ column_named s n name = lowest (is_named s name) n
 
 -- ---- the names given on: where they lie in the file, so that nobody reads the header again for a name
 
-abbrev pub names_from : List ℕ → List ℕ → Names
-names_from starts ends = record { starts = starts; ends = ends }
+-- where the name of column k lies
+abbrev pub span_of : List ℕ → ℕ → NameSpan
+span_of s k = record { start = (column s k).name.start; end = (column s k).name.end }
 
--- where the names of the columns 1..n lie
+-- of the columns 1..n; past the last nowhere
+abbrev pub no_span : NameSpan
+no_span = record { start = 0; end = 0 }
+
 unfoldable pub names_of : List ℕ → ℕ → Names
-names_of s n =
-    names_from
-    (one_to (λ k. (column s k).name.start) n ++ replicate (most_columns - n) 0)
-    (one_to (λ k. (column s k).name.end) n ++ replicate (most_columns - n) 0)
-
--- what stands in their place where the header is refused
-abbrev pub no_names : Names
-no_names = names_from (replicate most_columns 0) (replicate most_columns 0)
+names_of s n = record { spans = one_to (span_of s) n ++ replicate (most_columns - n) no_span }
 
 -- the part of the file that is the name of column k; cut where the file ends
+abbrev pub part_at : List ℕ → NameSpan → List ℕ
+part_at file x = part file (span x.start x.end)
+
 abbrev pub name_among : List ℕ → Names → ℕ → List ℕ
-name_among file names k = part file (span (get_or names.starts (pred k) 0) (get_or names.ends (pred k) 0))
+name_among file names k = part_at file (get_or names.spans (pred k) no_span)
 
 unfoldable pub is_among : List ℕ → Names → List ℕ → ℕ → Bool
 is_among file names name k = same_text (name_among file names k) name

@@ -1,13 +1,12 @@
 -- "A header is accepted exactly when it meets the grammar, its column rules and its limits, with one reading": the rules in the
 -- paper's words, over a reading of the text.
-use Rattle.std.specs.Prelude.{◌≡◌, ◌⊎◌, ◌↔◌, true, false, List, [], ◌∷◌, ℕ, ◌+◌, ◌≤◌, ◌<◌, length, get_or, take, drop}
+use Rattle.std.specs.Prelude.{◌≡◌, ◌⊎◌, ◌↔◌, true, false, List, [], ◌∷◌, ℕ, ◌+◌, ◌≤◌, ◌<◌, length, get_or, take, drop, Some}
 use Rattle.laws.specs.Lowest.{In}
 use Rattle.number.specs.declared.Order.{Order}
 use Rattle.number.specs.declared.Order.TheVariants.{Least, Most}
 use Rattle.number.specs.Bytes.{number}
 use Rattle.grammar.specs.Words as words
 use Rattle.field.specs.declared.FieldType.{FieldType}
-use Rattle.field.specs.declared.Lookup.TheVariants.{Is}
 use Rattle.field.specs.Fields.{type_of, count_right}
 use Rattle.header.specs.declared.Definition.{Definition}
 use Rattle.header.specs.Places.{decimal, part}
@@ -42,7 +41,7 @@ pub data OrderIs : ℕ → Order → Type 0 where
 -- "Letters not listed, keys other than P, U, N, and counts above 65,535 or wrong for the type are 4."
 pub record ColumnSound (c : words.Column) : Type 0 where
   pub kind : FieldType
-  pub listed : type_of c.type ≡ Is kind
+  pub listed : type_of c.type ≡ Some kind
   pub key : (c.key ≡ 80) ⊎ ((c.key ≡ 85) ⊎ (c.key ≡ 78))
   pub count : ((c.count ≡ words.star ∷ []) × (count_right kind true 0 ≡ true)) ⊎ (words.Numeral c.count × (count_right kind false (decimal 0 c.count) ≡ true))
 

@@ -4,30 +4,25 @@ ghost use Rattle.limits.specs.Limits.{most_columns};
 ghost use Rattle.field.specs.Fields.{type_of};
 ghost use Rattle.header.specs.Judge.{key_listed, sound};
 ghost use Rattle.header.specs.Layouts.{kind_of, varies, count_kept, blank_column};
-ghost use Rattle.header.specs.Serving.Stages.{most_head, laid_after, none_kept, gathered_of};
+ghost use Rattle.header.specs.Serving.Stages.{most_head, laid_after, gathered_of};
 
-use crate::{ColumnLayout, Definition, Kept, places};
-use field::{FieldType, Lookup};
+use crate::{ColumnLayout, Definition, Kept, NameSpan, Names, places};
+use field::FieldType;
 use limits::MOST_COLUMNS;
+use refusal::{Kind, Refusal};
 
 // The type of a letter; text where it is not listed.
 fn kind_of(letter: u8) -> FieldType
     ensures { result ≡ kind_of (type_of letter) }
 {
-    match FieldType::of(letter) {
-        Lookup::Is(kind) => kind,
-        Lookup::Unlisted => FieldType::Text,
-    }
+    FieldType::of(letter).unwrap_or(FieldType::Text)
 }
 
 // Whether a field of the definition has no fixed width.
 fn is_varying(d: Definition) -> bool
     ensures { result ≡ varies d }
 {
-    if d.star {
-        return true;
-    }
-    kind_of(d.kind).is_triplet()
+    d.star || kind_of(d.kind).is_triplet()
 }
 
 // The count of a sound definition, 0 for a star. No other count has more than sixteen bits.
@@ -35,10 +30,7 @@ fn count_kept(d: Definition) -> u16
     requires { sound d ≡ true }
     ensures { result ≡ count_kept d }
 {
-    if d.star {
-        return 0;
-    }
-    d.count as u16
+    if d.star { 0 } else { d.count as u16 }
 }
 
 // What a row needs of a column.
@@ -68,30 +60,10 @@ pub(crate) fn blank_column() -> ColumnLayout
     }
 }
 
-// Whether an earlier column varies, or this one does.
-fn either_varies(earlier: bool, d: Definition) -> bool
-    ensures { result ≡ cond earlier true (varies d) }
-{
-    if earlier { true } else { is_varying(d) }
-}
-
-// The width of a row of so many fixed bytes, 0 where a column varies.
-fn width_of(varying: bool, bytes: u32) -> u32
-    ensures { result ≡ cond varying 0 bytes }
-{
-    if varying { 0 } else { bytes }
-}
-
 fn key_listed(key: u8) -> bool
     ensures { result ≡ key_listed key }
 {
-    if key == b'P' {
-        true
-    } else if key == b'U' {
-        true
-    } else {
-        key == b'N'
-    }
+    matches!(key, b'P' | b'U' | b'N')
 }
 
 // Whether type, key and count of a definition are right (4).
@@ -99,75 +71,48 @@ pub(crate) fn is_sound(d: Definition) -> bool
     ensures { result ≡ sound d }
 {
     match FieldType::of(d.kind) {
-        Lookup::Is(kind) => {
-            if key_listed(d.key) {
-                kind.count_right(d.star, d.count)
-            } else {
-                false
-            }
-        }
-        Lookup::Unlisted => false,
-    }
-}
-
-// What is kept where a column is wrong: that column alone.
-pub(crate) fn none_kept(wrong: usize) -> Kept
-    ensures { result ≡ none_kept wrong }
-{
-    let blank = blank_column();
-    let names = crate::no_names();
-    let keys = [0u8; MOST_COLUMNS];
-    let cols = [blank; MOST_COLUMNS];
-    Kept {
-        wrong: wrong,
-        names: names,
-        keys: keys,
-        cols: cols,
-        width: 0,
-        first: 0,
-        after: 0,
+        Some(kind) => key_listed(d.key) && kind.count_right(d.star, d.count),
+        None => false,
     }
 }
 
 // One pass over no more definitions than the limit: the lowest column that has a wrong type, key or count, or what is kept of the columns.
-pub(crate) fn gather(head: &[u8], n: usize) -> Kept
+pub(crate) fn gather(head: &[u8], n: usize) -> Result<Kept, Refusal>
     requires { (length head.now ≤ most_head) × (n ≤ most_columns) }
     ensures { result ≡ gathered_of head.now n }
 {
     let blank = blank_column();
     let mut cols = [blank; MOST_COLUMNS];
-    let mut names = crate::no_names();
+    let mut names = Names {
+        spans: [NameSpan { start: 0, end: 0 }; MOST_COLUMNS],
+    };
     let mut keys = [0u8; MOST_COLUMNS];
     let first = places::first_definition(head);
     let mut at = first;
     let mut bytes: u32 = 0;
     let mut varying = false;
-    let mut k = 0;
-    while k < n {
+    for k in 0..n {
         let d = places::definition_at(head, at);
-        if is_sound(d) {
-            let column = lay_column(d, bytes);
-            let name = d.name;
-            names.starts[k] = name.start as u16;
-            names.ends[k] = name.end as u16;
-            keys[k] = d.key;
-            cols[k] = column;
-            bytes = bytes + crate::fixed_bytes(column);
-            varying = either_varies(varying, d);
-            at = d.after;
-            k += 1;
-        } else {
-            return none_kept(k + 1);
+        if !is_sound(d) {
+            return Err(Kind::WrongDefinition.at(k + 1));
         }
+        let column = lay_column(d, bytes);
+        names.spans[k] = NameSpan {
+            start: d.name.start as u16,
+            end: d.name.end as u16,
+        };
+        keys[k] = d.key;
+        cols[k] = column;
+        bytes = bytes + crate::fixed_bytes(column);
+        varying = varying || is_varying(d);
+        at = d.after;
     }
-    let width = width_of(varying, bytes);
-    Kept {
-        wrong: 0,
+    Ok(Kept {
         names: names,
         keys: keys,
         cols: cols,
-        width: width,
+        width: if varying { 0 } else { bytes },
         first: first,
         after: at,
-    }
+    })
 }

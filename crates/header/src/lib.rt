@@ -10,12 +10,11 @@ mod places;
 mod steps;
 
 ghost use Rattle.std.specs.Prelude.{◌≡◌, ◌*◌, ◌<◌, ◌≤◌};
+ghost use Rattle.laws.specs.Lowest.{found};
 ghost use Rattle.field.specs.Fields.{widest, most_count};
-ghost use Rattle.header.specs.Names.{no_names, column_among};
-ghost use Rattle.header.specs.Layouts.{fixed_bytes, blank_layout, header_of};
+ghost use Rattle.header.specs.Names.{column_among};
+ghost use Rattle.header.specs.Layouts.{fixed_bytes, header_of};
 ghost use Rattle.header.specs.Steps.{step_of, start_of, column_of};
-ghost use Rattle.header.specs.Serving.Stages.{handed_on};
-ghost use Rattle.header.specs.declared.Answer.TheVariants as answers;
 
 use field::FieldType;
 use limits::MOST_COLUMNS;
@@ -46,12 +45,6 @@ pub struct Definition {
     pub after: usize,
 }
 
-#[derive(Clone, Copy)]
-pub enum Answer {
-    Accepted,
-    Refused(Refusal),
-}
-
 // What a row needs of a column: its type and count (0 for a star), and the fixed bytes of the columns before it: where it starts in a
 // row of fixed width. It has eight bytes, so that a layout of all columns, which travels by value, has one kilobyte.
 #[derive(Clone, Copy)]
@@ -74,34 +67,31 @@ pub struct Layout {
     pub cols: [ColumnLayout; MOST_COLUMNS],
 }
 
-// Where the names of the columns lie in the file, the first column's at 0; 0 and 0 past the last. A head ends by byte 32,771, so that
-// sixteen bits do.
-#[derive(Clone, Copy)]
-pub struct Names {
-    pub starts: [u16; MOST_COLUMNS],
-    pub ends: [u16; MOST_COLUMNS],
+// Where a name lies in the file. A head ends by byte 32,771, so that sixteen bits do.
+#[derive(Clone, Copy, Debug, PartialEq, Eq)]
+pub struct NameSpan {
+    pub start: u16,
+    pub end: u16,
 }
 
+// Where the names of the columns lie in the file, the first column's at 0; from 0 to 0 past the last.
+#[derive(Clone, Copy)]
+pub struct Names {
+    pub spans: [NameSpan; MOST_COLUMNS],
+}
+
+// What an accepted header hands on.
 #[derive(Clone, Copy)]
 pub struct Header {
-    pub answer: Answer,
     pub layout: Layout,
     pub names: Names,
 }
 
-#[derive(Clone, Copy)]
-pub enum Step {
-    Column(Definition),
-    Done,
-    Refused(Refusal),
-}
-
-// What one pass over no more definitions than the limit keeps: the lowest column that has a wrong type, key or count; where there is
-// none, 0, and the names, the keys, the layouts and the width of every row, or 0; where the first definition starts, and the place
-// after the last.
+// What one pass over no more definitions than the limit keeps of them, where each has a right type, key and count: the names, the keys,
+// the layouts and the width of every row, or 0; where the first definition starts, and the place after the last.
+// The layouts go on into `Layout` as they are, with eight bytes each, so that keys, which no row needs, have an array of their own.
 #[derive(Clone, Copy)]
 struct Kept {
-    wrong: usize,
     names: Names,
     keys: [u8; MOST_COLUMNS],
     cols: [ColumnLayout; MOST_COLUMNS],
@@ -110,16 +100,12 @@ struct Kept {
     after: usize,
 }
 
-// The refusal; or none and what an accepted header hands on: the byte order, where the text ends and row 1 starts, how many columns
-// there are, which of them is `id`, and what was kept of them.
+// An accepted header: what it hands on, where the first definition starts, and the place after the last.
 #[derive(Clone, Copy)]
 struct Judged {
-    refusal: Refusal,
-    order: Order,
-    start: usize,
-    columns: usize,
-    id: usize,
-    kept: Kept,
+    header: Header,
+    first: usize,
+    after: usize,
 }
 
 // Count times width: the bytes of a field of fixed width; of a column that a header gives, 0 of the others, since a star's count is 0 and a
@@ -133,127 +119,61 @@ pub fn fixed_bytes(column: ColumnLayout) -> u32
     column.count as u32 * kind.width() as u32
 }
 
-// What stands in the place of a layout where the header is refused.
-pub fn blank_layout() -> Layout
-    ensures { result ≡ blank_layout }
-{
-    let blank = layouts::blank_column();
-    let cols = [blank; MOST_COLUMNS];
-    Layout {
-        order: Order::Least,
-        start: 0,
-        columns: 0,
-        id: 0,
-        width: 0,
-        cols: cols,
-    }
-}
-
-// What stands in the place of the names where the header is refused.
-pub fn no_names() -> Names
-    ensures { result ≡ no_names }
-{
-    let starts = [0u16; MOST_COLUMNS];
-    let ends = [0u16; MOST_COLUMNS];
-    Names {
-        starts: starts,
-        ends: ends,
-    }
-}
-
-// A refused header hands nothing on.
-fn refused_header(q: Refusal) -> Header
-    ensures { result ≡ record { answer = answers.Refused q; layout = blank_layout; names = no_names } }
-{
-    let layout = blank_layout();
-    let names = no_names();
-    let answer = Answer::Refused(q);
-    Header {
-        answer: answer,
-        layout: layout,
-        names: names,
-    }
-}
-
-// What rows need of an accepted header, and where its names lie.
-fn accepted_header(judged: Judged) -> Header
-    requires { judged.start < 4294967296 }
-    ensures { result ≡ handed_on judged }
-{
-    let order = judged.order;
-    let kept = judged.kept;
-    let cols = kept.cols;
-    let names = kept.names;
-    let layout = Layout {
-        order: order,
-        start: judged.start as u32,
-        columns: judged.columns,
-        id: judged.id,
-        width: kept.width,
-        cols: cols,
-    };
-    let answer = Answer::Accepted;
-    Header {
-        answer: answer,
-        layout: layout,
-        names: names,
-    }
-}
-
-// The header of a table file: accepted, or refused with one number and one place; what rows need of it; and where the names lie.
+// The header of a table file: what rows need of it, and where the names lie; or the refusal, one number and one place.
 // Example: the ring table of document 01, with columns id, fac_id and start_edge of type I, has L = 93, and its rows of 12 bytes start at
 // byte 97. With L = 92 its last `;` is outside the text: refused with 3 at 96.
-pub fn read_header(file: &[u8]) -> Header
+pub fn read_header(file: &[u8]) -> Result<Header, Refusal>
     ensures { result ≡ header_of file.now }
 {
-    let judged = judge::judge_file(file);
-    let q = judged.refusal;
-    if q.number != 0 {
-        return refused_header(q);
-    }
-    accepted_header(judged)
+    let accepted = judge::judge_file(file)?;
+    Ok(accepted.header)
 }
 
-// One step of a reader that stands at the place.
-pub fn column_step(file: &[u8], place: usize) -> Step
+// One step of a reader that stands at the place: a column, the end after the last, or a refusal.
+pub fn column_step(file: &[u8], place: usize) -> Result<Option<Definition>, Refusal>
     ensures { result ≡ step_of file.now place }
 {
-    let judged = judge::judge_file(file);
-    let q = judged.refusal;
-    if q.number != 0 {
-        return Step::Refused(q);
-    }
-    let end = judged.start;
-    let kept = judged.kept;
-    let names = kept.names;
-    let starts = names.starts;
-    steps::step_in(&file[0..end], &starts, kept.after, judged.columns, place)
+    let judged = judge::judge_file(file)?;
+    let layout = judged.header.layout;
+    let names = judged.header.names;
+    steps::step_in(
+        &file[0..layout.start as usize],
+        &names,
+        judged.after,
+        layout.columns,
+        place,
+    )
 }
 
 // Where a new reader stands: at the first definition, at 0 where the header is refused.
 pub fn first_place(file: &[u8]) -> usize
     ensures { result ≡ start_of file.now }
 {
-    let judged = judge::judge_file(file);
-    let kept = judged.kept;
-    kept.first
+    match judge::judge_file(file) {
+        Ok(judged) => judged.first,
+        Err(_) => 0,
+    }
 }
 
-// The column of a name in either case; 0 where there is none or the header is refused.
-pub fn find_column(file: &[u8], name: &[u8]) -> usize
-    ensures { result ≡ column_of file.now name.now }
+// The column of a name in either case, if there is one and the header is accepted.
+pub fn find_column(file: &[u8], name: &[u8]) -> Option<usize>
+    ensures { result ≡ found (column_of file.now name.now) }
 {
-    let judged = judge::judge_file(file);
-    let kept = judged.kept;
-    column_among(file, kept.names, judged.columns, name)
+    match judge::judge_file(file) {
+        Ok(judged) => column_among(
+            file,
+            judged.header.names,
+            judged.header.layout.columns,
+            name,
+        ),
+        Err(_) => None,
+    }
 }
 
-// The column of a name in either case among the names of so many columns, up to the limit, that lie in the file; 0 where there is none.
+// The column of a name in either case among the names of so many columns, up to the limit, that lie in the file, if there is one.
 // Over what `read_header` gives of a file it is what `find_column` gives, and judges nothing anew.
-pub fn column_among(file: &[u8], names: Names, columns: usize, name: &[u8]) -> usize
-    ensures { result ≡ column_among file.now names columns name.now }
+pub fn column_among(file: &[u8], names: Names, columns: usize, name: &[u8]) -> Option<usize>
+    ensures { result ≡ found (column_among file.now names columns name.now) }
 {
-    let starts = names.starts;
-    let ends = names.ends;
-    naming::column_by_name(file, &starts, &ends, limits::columns_within(columns), name)
+    names.column(file, limits::columns_within(columns), name)
 }

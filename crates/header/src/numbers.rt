@@ -20,10 +20,8 @@ pub(crate) fn number_of(name: &[u8]) -> u32
     ensures { result ≡ number_of name.now }
 {
     let mut number = (name.len() % 32) as u32;
-    let mut i = 0;
-    while i < name.len() {
-        number = with_letter(number, name[i]);
-        i += 1;
+    for &letter in name {
+        number = with_letter(number, letter);
     }
     number
 }

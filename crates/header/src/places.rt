@@ -20,12 +20,10 @@ fn seek_byte(head: &[u8], p: usize, byte: u8) -> usize
     ensures value { result ≡ seek head.now p byte }
     ensures upper_bound { result ≤ length head.now }
 {
-    let mut i = p;
-    while i < head.len() {
+    for i in p..head.len() {
         if head[i] == byte {
             return i;
         }
-        i += 1;
     }
     head.len()
 }
@@ -35,10 +33,7 @@ fn digit_of(byte: u8) -> u32
     ensures value { result ≡ byte - 48 }
     ensures upper_bound { result ≤ 207 }
 {
-    if byte < 48 {
-        return 0;
-    }
-    (byte - 48) as u32
+    byte.saturating_sub(b'0') as u32
 }
 
 // The number that the at most five bytes from p to e say.
@@ -47,10 +42,8 @@ fn number_from(head: &[u8], p: usize, e: usize) -> u32
     ensures { result ≡ decimal 0 (take (e - p) (drop p head.now)) }
 {
     let mut value: u32 = 0;
-    let mut i = p;
-    while i < e {
+    for i in p..e {
         value = value * 10 + digit_of(head[i]);
-        i += 1;
     }
     value
 }
@@ -60,10 +53,7 @@ fn count_of(head: &[u8], p: usize, e: usize) -> u32
     requires { (e ≤ length head.now) × (p ≤ most_head + 3) }
     ensures { result ≡ count_of head.now p e }
 {
-    if p + MOST_DIGITS < e {
-        return number_from(head, p, p + MOST_DIGITS);
-    }
-    number_from(head, p, e)
+    number_from(head, p, e.min(p + MOST_DIGITS))
 }
 
 // Where the last name of a definition ends, whose colon is given: at the comma just before it, or where that is missing at the colon.
@@ -71,11 +61,11 @@ fn last_end(head: &[u8], colon: usize) -> usize
     requires { colon ≤ length head.now }
     ensures { result ≡ last_end head.now colon }
 {
-    if colon == 0 {
-        return 0;
+    if 0 < colon && head[colon - 1] == b',' {
+        colon - 1
+    } else {
+        colon
     }
-    let before = colon - 1;
-    if head[before] == b',' { before } else { colon }
 }
 
 // The definition at p: each field ends at the next byte that separates. Between a name and a count stand `=`, the type and `,`;

@@ -5,68 +5,56 @@
 // answer alone.
 #![tactic(auto)]
 
-use casefile::{FILE_ROOM, say, say_number, say_part, say_refusal};
-use header::{Answer, ColumnLayout, Definition, Layout, Step};
+use casefile::{FILE_ROOM, Fields, say, say_part};
+use header::{ColumnLayout, Definition, Layout, Span};
 use number::Order;
 use std::io;
 use std::io::{BufWriter, Write};
 use std::rt::Files;
 
-fn say_letter(out: &mut impl Write, b: u8) -> io::Result<()> {
-    let text = [b; 1];
-    say(out, &text)
+// A part of the file.
+fn say_span(out: &mut impl Write, file: &[u8], part: Span) -> io::Result<()> {
+    say_part(out, file, part.start, part.end)
 }
 
 fn say_count(out: &mut impl Write, star: bool, count: u32) -> io::Result<()> {
     if star {
         say(out, b"*")
     } else {
-        say_number(out, count as u64)
+        write!(out, "{count}")
     }
 }
 
 // A definition as the text has it, and the place after it.
 fn say_definition(out: &mut impl Write, file: &[u8], d: Definition) -> io::Result<()> {
-    say_part(out, file, d.name.start, d.name.end)?;
-    say(out, b"=")?;
-    say_letter(out, d.kind)?;
-    say(out, b",")?;
+    say_span(out, file, d.name)?;
+    say(out, &[b'=', d.kind, b','])?;
     say_count(out, d.star, d.count)?;
-    say(out, b",")?;
-    say_letter(out, d.key)?;
-    say(out, b",")?;
-    say_part(out, file, d.description.start, d.description.end)?;
-    say(out, b",")?;
-    say_part(out, file, d.value.start, d.value.end)?;
-    say(out, b",")?;
-    say_part(out, file, d.thematic.start, d.thematic.end)?;
-    say(out, b",")?;
-    say_part(out, file, d.narrative.start, d.narrative.end)?;
+    say(out, &[b',', d.key])?;
+    for part in [d.description, d.value, d.thematic, d.narrative] {
+        say(out, b",")?;
+        say_span(out, file, part)?;
+    }
     if d.comma {
         say(out, b",")?;
     }
-    say(out, b": after ")?;
-    say_number(out, d.after as u64)
+    writeln!(out, ": after {}", d.after)
 }
 
 // Says a step at a place, and answers the place after it.
 fn say_step(out: &mut impl Write, file: &[u8], place: usize) -> io::Result<usize> {
-    say(out, b"  at ")?;
-    say_number(out, place as u64)?;
-    say(out, b" ")?;
+    write!(out, "  at {place} ")?;
     match header::column_step(file, place) {
-        Step::Column(d) => {
+        Ok(Some(d)) => {
             say_definition(out, file, d)?;
-            say(out, b"\n")?;
             Ok(d.after)
         }
-        Step::Done => {
-            say(out, b"done\n")?;
+        Ok(None) => {
+            writeln!(out, "done")?;
             Ok(place)
         }
-        Step::Refused(bad) => {
-            say_refusal(out, bad)?;
-            say(out, b"\n")?;
+        Err(bad) => {
+            writeln!(out, "refused {bad}")?;
             Ok(place)
         }
     }
@@ -74,92 +62,67 @@ fn say_step(out: &mut impl Write, file: &[u8], place: usize) -> io::Result<usize
 
 // What a row needs of a column.
 fn say_column(out: &mut impl Write, c: ColumnLayout) -> io::Result<()> {
-    say(out, b"  ")?;
     let kind = c.kind;
-    say_letter(out, kind.letter())?;
-    say(out, b",")?;
+    say(out, &[b' ', b' ', kind.letter(), b','])?;
     say_count(out, c.star, c.count as u32)?;
-    say(out, b" bytes ")?;
-    say_number(out, header::fixed_bytes(c) as u64)?;
-    say(out, b" after ")?;
-    say_number(out, c.offset as u64)?;
-    say(out, b"\n")
+    writeln!(out, " bytes {} after {}", header::fixed_bytes(c), c.offset)
 }
 
-fn say_order(out: &mut impl Write, order: Order) -> io::Result<()> {
+fn letter_of(order: Order) -> char {
     match order {
-        Order::Least => say(out, b", order L"),
-        Order::Most => say(out, b", order M"),
+        Order::Least => 'L',
+        Order::Most => 'M',
     }
 }
 
+// What rows need of a header, and the layouts of the columns that it has.
 fn say_layout(out: &mut impl Write, layout: Layout) -> io::Result<()> {
-    let order = layout.order;
-    say_order(out, order)?;
-    say(out, b", rows from ")?;
-    say_number(out, layout.start as u64)?;
-    say(out, b", columns ")?;
-    say_number(out, layout.columns as u64)?;
-    say(out, b", id ")?;
-    say_number(out, layout.id as u64)?;
-    say(out, b", width ")?;
-    say_number(out, layout.width as u64)?;
-    say(out, b"\n")
-}
-
-// The layouts of the columns that the header has.
-fn say_columns(out: &mut impl Write, layout: Layout) -> io::Result<()> {
-    let cols = layout.cols;
-    let count = limits::columns_within(layout.columns);
-    for i in 0..count {
-        let c = cols[i];
-        say_column(out, c)?;
+    writeln!(
+        out,
+        "order {}, rows from {}, columns {}, id {}, width {}",
+        letter_of(layout.order),
+        layout.start,
+        layout.columns,
+        layout.id,
+        layout.width
+    )?;
+    for c in layout.cols.iter().take(layout.columns) {
+        say_column(out, *c)?;
     }
     Ok(())
 }
 
-// So many steps from a place; answers where they end.
-fn say_steps(out: &mut impl Write, file: &[u8], first: usize, count: usize) -> io::Result<usize> {
-    let mut place = first;
-    for _ in 0..count {
-        place = say_step(out, file, place)?;
-    }
-    Ok(place)
-}
-
+// The answer, each step through the columns of an accepted header, and the step at the place where these end.
 fn say_header(out: &mut impl Write, file: &[u8]) -> io::Result<()> {
-    let h = header::read_header(file);
-    let answer = h.answer;
-    let layout = h.layout;
-    match answer {
-        Answer::Accepted => say(out, b"accepted")?,
-        Answer::Refused(bad) => say_refusal(out, bad)?,
+    let mut place = header::first_place(file);
+    match header::read_header(file) {
+        Ok(h) => {
+            say(out, b"accepted, ")?;
+            say_layout(out, h.layout)?;
+            for _ in 0..h.layout.columns {
+                place = say_step(out, file, place)?;
+            }
+        }
+        Err(bad) => writeln!(
+            out,
+            "refused {bad}, order L, rows from 0, columns 0, id 0, width 0"
+        )?,
     }
-    say_layout(out, layout)?;
-    say_columns(out, layout)?;
-    let last = say_steps(out, file, header::first_place(file), layout.columns)?;
-    say_step(out, file, last)?;
+    say_step(out, file, place)?;
     Ok(())
 }
 
 // The answer alone, and of an accepted header how many columns it has.
 fn say_answer(out: &mut impl Write, file: &[u8]) -> io::Result<()> {
-    let h = header::read_header(file);
-    let answer = h.answer;
-    let layout = h.layout;
-    match answer {
-        Answer::Accepted => {
-            say(out, b"accepted, columns ")?;
-            say_number(out, layout.columns as u64)?;
-        }
-        Answer::Refused(bad) => say_refusal(out, bad)?,
+    match header::read_header(file) {
+        Ok(h) => writeln!(out, "accepted, columns {}", h.layout.columns),
+        Err(bad) => writeln!(out, "refused {bad}"),
     }
-    say(out, b"\n")
 }
 
 fn run_case(out: &mut impl Write, case: &[u8], brief: bool) -> io::Result<()> {
     let file = casefile::part(case, 1);
-    let place = number::read8(casefile::part(case, 2), 0, Order::Least) as usize;
+    let place = number::read::<u64>(casefile::part(case, 2), 0, Order::Least) as usize;
     let name = casefile::part(case, 3);
     say(out, casefile::part(case, 0))?;
     say(out, b": ")?;
@@ -170,24 +133,17 @@ fn run_case(out: &mut impl Write, case: &[u8], brief: bool) -> io::Result<()> {
     say_step(out, file, place)?;
     say(out, b"  `")?;
     say(out, name)?;
-    say(out, b"` is column ")?;
-    say_number(out, header::find_column(file, name) as u64)?;
-    say(out, b"\n")
-}
-
-fn run(out: &mut impl Write, file: &[u8], brief: bool) -> io::Result<()> {
-    let mut at = 0;
-    while at < file.len() {
-        run_case(out, casefile::field(file, at), brief)?;
-        at = casefile::after(file, at);
-    }
-    Ok(())
+    let column = header::find_column(file, name).unwrap_or(0);
+    writeln!(out, "` is column {column}")
 }
 
 fn run_file(files: &impl Files, out: &mut impl Write, path: &[u8], brief: bool) -> io::Result<()> {
     let mut buf = [0u8; FILE_ROOM];
     let n = casefile::load(files, path, &mut buf);
-    run(out, &buf[..n], brief)
+    for case in Fields::new(&buf[..n]) {
+        run_case(out, case, brief)?;
+    }
+    Ok(())
 }
 
 fn main(rt: HostRuntime) -> io::Result<()> {

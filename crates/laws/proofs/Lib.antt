@@ -14,3 +14,4 @@ pub mod PieceLaws
 pub mod PlaceLaws
 pub mod LeastLaws
 pub mod PartitionLaws
+pub mod FoundLaws

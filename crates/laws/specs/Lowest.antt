@@ -1,5 +1,5 @@
 -- The lowest number of 1..n that passes a test: "lowest row or side first" is this one definition.
-use Rattle.std.specs.Prelude.{◌≡◌, Bool, true, false, cond, ℕ, zero, suc, ◌≤◌, ◌<◌, eqb, ltb}
+use Rattle.std.specs.Prelude.{◌≡◌, Bool, true, false, cond, ℕ, zero, suc, ◌≤◌, ◌<◌, eqb, ltb, Option, Some, None as Nothing}
 
 -- the first of two that is not 0
 abbrev pub first_nonzero : ℕ → ℕ → ℕ
@@ -10,6 +10,11 @@ first_nonzero (suc a) b = suc a
 abbrev pub lowest : (ℕ → Bool) → ℕ → ℕ
 lowest p zero = 0
 lowest p (suc n) = first_nonzero (lowest p n) (cond (p (suc n)) (suc n) 0)
+
+-- a number found, where 0 stands for none
+abbrev pub found : ℕ → Option ℕ
+found zero = Nothing
+found (suc k) = Some (suc k)
 
 -- none of 1..n passes
 pub record None (p : ℕ → Bool) (n : ℕ) : Type 0 where

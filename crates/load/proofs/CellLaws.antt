@@ -17,13 +17,18 @@ use Rattle.field.specs.Fields.{letter_of}
 use Rattle.header.specs.declared.Layout.{Layout}
 use Rattle.limits.specs.Limits.{most_columns, most_rows}
 use Rattle.table.specs.Rows.{columns_of, no_such_column, column_at, bound_of, column_place, row_refusal, row_judged}
-use Rattle.table.specs.Plans.{bound_by, plan_of}
+use Rattle.table.specs.declared.rows.Rows.{Rows}
+use Rattle.table.specs.Plans.{bound_by, plan_of, rows_by}
 use Rattle.table.proofs.RowLaws.{inside, such, column_there}
 use Rattle.table.proofs.WalkLaws.{place_within}
 use Rattle.table.proofs.PlanLaws.{judged_inside, walked_place, fixed_place, length_after, bound_by_lem}
 use Rattle.taken.proofs.LetterLaws.{number_by_lem}
+use Rattle.opening.specs.declared.Table.{Table}
+use Rattle.load.specs.declared.ColumnsMut.{ColumnsMut}
+use Rattle.load.specs.Columns.{columns}
+use Rattle.load.specs.Lent.{contents, SameColumns}
 use Rattle.load.specs.Sources.{number_at_place}
-use Rattle.load.specs.Cells.{cell_in, cell_of, EdgeColumns, SixThere}
+use Rattle.load.specs.Cells.{cell_in, cell_of, EdgeColumns, SixThere, edges_written}
 use Rattle.load.specs.Serving.CellPlans.{offsets_of, origin_of, places_for, letters_of, cell_at, cells_at}
 
 -- the six are columns that a header can have
@@ -49,12 +54,39 @@ written_next g i v old new next w p e h = rw p (front_next g i v new old w.0 e h
 pub written_all : (g : ℕ → ℕ) (i n : ℕ) (old new : List ℕ) → Written g i old new → i ≡ n → new ≡ front g n old
 written_all g i n old new w e = w.0 ∙ ap (λ (k : ℕ). front g k old) e
 
+-- the six columns of edges with their first i cells written, the other four as they were, and all ten the same
+abbrev pub EdgesWritten : (ℕ → ℕ → ℕ) → ℕ → ColumnsMut → ColumnsMut → Type 0
+EdgesWritten g i old new =
+    Written (g 1) i old.start_node.now new.start_node.now × Written (g 2) i old.end_node.now new.end_node.now
+    × Written (g 3) i old.right_face.now new.right_face.now × Written (g 4) i old.left_face.now new.left_face.now
+    × Written (g 5) i old.right_edge.now new.right_edge.now × Written (g 6) i old.left_edge.now new.left_edge.now
+    × (new.ring_ptr.now ≡ old.ring_ptr.now) × (new.fac_id.now ≡ old.fac_id.now) × (new.start_edge.now ≡ old.start_edge.now)
+    × (new.first_edge.now ≡ old.first_edge.now) × SameColumns old new
+
+pub edges_all : (file index : List ℕ) (t : Table) (numbers : List ℕ) (i : ℕ) (old new : ColumnsMut)
+    → EdgesWritten (λ k. cell_of file index t.layout (number_at_place numbers k)) i old new → i ≡ t.rows
+    → contents new ≡ edges_written file index t numbers (contents old)
+edges_all file index t numbers i old new w e =
+    let g : ℕ → ℕ → ℕ = λ k. cell_of file index t.layout (number_at_place numbers k) in
+    λ j. columns (written_all (g 1) i t.rows _ _ w.0 e j) (written_all (g 2) i t.rows _ _ w.1 e j) (written_all (g 3) i t.rows _ _ w.2 e j)
+    (written_all (g 4) i t.rows _ _ w.3 e j) (written_all (g 5) i t.rows _ _ w.4 e j) (written_all (g 6) i t.rows _ _ w.5 e j)
+    (w.6 j) (w.7 j) (w.8 j) (w.9 j)
+
 -- ---- a turn of a writing loop, over row i + 1: where it ends, the places after it, and each of its cells as they are read
 pub record Turn (file index : List ℕ) (l : Layout) (i n end origin : ℕ) (places : List ℕ) : Type 0 where
   pub ends : end ≡ bound_of l index (i + 1)
   pub still : Ready l places
   pub cell : (k : ℕ) → no_such_column l k ≡ false → k ≤ n → (letter v : ℕ) → letter ≡ letter_of (column_at l k).kind
       → v ≡ cell_at l.order file letter k places origin end → v ≡ cell_of file index l k i
+
+-- what a walk by the rows that are taken of the layout once leaves is what one by the layout leaves
+pub places_by_layout : (l : Layout) (r : Rows) → r ≡ rows_by l → (file : List ℕ) (n start end : ℕ) (old places : List ℕ)
+    → places ≡ places_for r.order file r.plan n r.width start end old → places ≡ places_for l.order file r.plan n l.width start end old
+places_by_layout l r e file n start end old places p = p ∙ ap (λ (x : Rows). places_for x.order file r.plan n x.width start end old) e
+
+-- the rows that are taken of the layout once have its plan where they must be walked
+pub plan_there : (l : Layout) (r : Rows) → r ≡ rows_by l → l.width ≡ 0 → r.plan ≡ plan_of l
+plan_there l r e z = rw (e, eq-eqb l.width 0 z)
 
 module _ (file index : List ℕ) (l : Layout) (rows : ℕ) (judged : None (refuses (row_judged file index l)) rows)
     (few : rows ≤ most_rows) (i start end : ℕ)
@@ -74,7 +106,7 @@ module _ (file index : List ℕ) (l : Layout) (rows : ℕ) (judged : None (refus
       rw (from, ends) (omega arith)
 
   -- the row is walked or not, and its places are found
-  module _ (plan : List ℕ) (planned : plan ≡ plan_of l) (n origin : ℕ) (old places : List ℕ) (before : Ready l old)
+  module _ (plan : List ℕ) (planned : l.width ≡ 0 → plan ≡ plan_of l) (n origin : ℕ) (old places : List ℕ) (before : Ready l old)
       (a : origin ≡ origin_of l.width start)
       (b : places ≡ places_for l.order file plan n l.width start end old) where
     stays_ready : Ready l places
@@ -99,7 +131,7 @@ module _ (file index : List ℕ) (l : Layout) (rows : ℕ) (judged : None (refus
           let w = inside file start end (judged_inside file l start end (suc i) row_fine) in
           let o : origin ≡ 0 = a ∙ rw (eq-eqb l.width 0 z) in
           let p : get_or places (pred k) 0 ≡ column_place file l start end k =
-          rw (b, eq-eqb l.width 0 z, planned) (walked_place file l start end (suc i) row_fine z k n old there last before.0) in
+          rw (b, eq-eqb l.width 0 z, planned z) (walked_place file l start end (suc i) row_fine z k n old there last before.0) in
           omega (arith, at_k, o, p, place_within file l start end k w.0 w.1))
           (λ z.
           let o : origin ≡ start = a ∙ rw (ne_eqb l.width 0 z) in

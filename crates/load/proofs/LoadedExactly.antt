@@ -16,6 +16,7 @@ use Prim.Native.Nat.{ℕ, zero, suc, min, ◌≤◌, ◌<◌}
 use native.Mathlib.Omega.{arith}
 use borrow.Author.Tests.{eq-eqb, ne_eqb, eqb-true, eqb-false, ltb-true, ltb-false, le-ltb, leb-true, leb-false}
 use lib.Dec.{eqb, ltb, leb}
+use Rattle.std.proofs.Common.{Ok, Err}
 use lib.ListN.{length, get_or}
 use Rattle.laws.specs.Lowest.{lowest, In, Each, LowestFailing}
 use Rattle.laws.proofs.LowestLaws.{bool_cases, lowest_le}
@@ -48,15 +49,14 @@ use Rattle.table.proofs.RowExactly.{there, columns_all, inside-file, row_exactly
 use Rattle.table.proofs.RowRefusedExactly.{row_refused_exactly}
 use Rattle.load.specs.declared.TableName.{TableName}
 use Rattle.load.specs.declared.TableName.TheVariants.{Edg, Fac, Rng, Cnd}
-use Rattle.load.specs.declared.Tables.{Tables}
 use Rattle.load.specs.declared.Finding.{Finding}
 use Rattle.load.specs.declared.Counts.{Counts}
-use Rattle.load.specs.declared.Loaded.TheVariants.{Tile, Refused}
-use Rattle.load.specs.Sources.{Files, file_of, index_of, table_in, tables_of, name_at, table_at, triplets_too, type_fits, fitting}
+use Rattle.header.specs.Layouts.{layout_of}
+use Rattle.load.specs.Sources.{given, Files, Tables, file_of, index_of, table_in, tables_of, name_at, table_at, triplets_too, type_fits, fitting}
 use Rattle.load.specs.Sources.{column_for, number_at_place, rows_for}
 use Rattle.load.specs.Load.{finding, found_at, opening, missing, column_wrong, column_finding, empty_finding, too_short, room_needed, room_finding, rows_finding}
 use Rattle.load.specs.Sources.{columns_of}
-use Rattle.load.specs.Load.{tests, load_finding, counts, load_of}
+use Rattle.load.specs.Load.{tests, load_finding, counts, unless_found, load_of}
 use Rattle.load.specs.Words.{OpensWith, rows_of, TakesTriplets, TypeRight, ColumnThere, RoomFor, layout_in, row_end, row_start, RowRight}
 use Rattle.load.specs.Words.{IsEmpty, count_of, Loads, Test, opened, columns_there, faces_some, rings_some, room_enough, rows_right}
 use Rattle.load.specs.Words.{turn, rank, Holds, FailsWith, RefusedWith}
@@ -171,7 +171,9 @@ module _ (f : Files) (most : ℕ) where
     index = index_of f n
 
     pub opened_as : table_in tables n ≡ record { layout = layout_in f n; rows = m }
-    opened_as = table_in_lem f most n ∙ opened_table file index most h m o
+    opened_as =
+        let t = opened_table file index most h m o in
+        table_in_lem f most n ∙ ap (λ r. (given r).table) t.1 ∙ t.2
 
     rows_said : rows_of f n ≡ m
     rows_said = opened_rows file index most h m o
@@ -206,7 +208,7 @@ module _ (f : Files) (most : ℕ) where
       fits_there : (fitting l k c ≡ 0 → ⊥) → Named h name c × TypeRight k (read.column_at h c)
       fits_there z =
           let w = fitting_some l k c z in
-          let p = such (opening.layout_of file).columns c (rw (columns_all file index most h m o) at w.0) in
+          let p = such (layout_of file).columns c (rw (columns_all file index most h m o) at w.0) in
           let d : Named h name c = ⊎_elim (λ q. absurd (omega (arith, q.0, p.0))) (λ q. q) (column_of-name file h o.header name) in
           (d, (type_told c d.0).0 w.1)
 
@@ -445,16 +447,16 @@ module _ (f : Files) (most : ℕ) where
       counted : ((x : Test) → Holds f most lengths x) → (n : TableName) → rows_of f n ≡ count_of (counts tables) n
       counted all n = let o = all (opened n) in sym (said_rows n o.0 o.1 o.2) ∙ sym (count_in n)
 
-      tile_exactly : (load_of f most lengths ≡ Tile c) ↔ ((number_of (load_finding f most lengths) ≡ 0) × (counts tables ≡ c))
-      unfolding load_of
+      tile_exactly : (load_of f most lengths ≡ Ok c) ↔ ((number_of (load_finding f most lengths) ≡ 0) × (counts tables ≡ c))
+      unfolding load_of unless_found
       tile_exactly =
           let q = load_finding f most lengths in
           bool_cases (eqb (number_of q) 0)
-          (λ t. rw t (λ e. (eqb-true (number_of q) 0 t, cc), λ w. ap Tile w.1))
+          (λ t. rw t (λ e. (eqb-true (number_of q) 0 t, cc), λ w. ap Ok w.1))
           (λ t. rw t (λ e. clash (cc), λ w. absurd (eqb-false (number_of q) 0 t w.0)))
 
       -- A TILE IS LOADED EXACTLY WHEN it is in words, and these are its counts
-      pub loaded_exactly : (load_of f most lengths ≡ Tile c) ↔ Loads f most lengths c
+      pub loaded_exactly : (load_of f most lengths ≡ Ok c) ↔ Loads f most lengths c
       loaded_exactly = (
         λ e.
             let w = tile_exactly.0 e in
@@ -467,8 +469,8 @@ module _ (f : Files) (most : ℕ) where
       )
 
     -- A TILE IS REFUSED WITH THE FINDING q EXACTLY WHEN a test fails so and all earlier ones hold
-    pub refused-exactly : (q : Finding) → (load_of f most lengths ≡ Refused q) ↔ RefusedWith f most lengths q
-    unfolding load_of
+    pub refused-exactly : (q : Finding) → (load_of f most lengths ≡ Err q) ↔ RefusedWith f most lengths q
+    unfolding load_of unless_found
     refused-exactly q =
         let a = load_finding f most lengths in
         bool_cases (eqb (number_of a) 0)
@@ -480,5 +482,5 @@ module _ (f : Files) (most : ℕ) where
         (λ t.
         rw t (
           λ e. let x : a ≡ q = cc in (finding_exactly q).0 (x, λ z. eqb-false (number_of a) 0 t (ap number_of x ∙ z)),
-          λ w. ap Refused ((finding_exactly q).1 w).0,
+          λ w. ap Err ((finding_exactly q).1 w).0,
         ))

@@ -8,6 +8,7 @@ use native.Mathlib.Omega.{arith}
 use borrow.Author.Tests.{eqb-true, le-ltb}
 use lib.Dec.{eqb, ltb}
 use lib.ListN.{length, get_or, take, drop}
+use Rattle.std.proofs.Common.{Ok}
 use Rattle.laws.specs.Lowest.{In}
 use Rattle.laws.proofs.LowestLaws.{bool_cases}
 use Rattle.laws.proofs.BufferLaws.{length_front, front_low, front_high}
@@ -17,8 +18,8 @@ use Rattle.grammar.specs.Words.{Reading}
 use Rattle.field.specs.declared.FieldType.{FieldType}
 use Rattle.field.specs.declared.FieldType.TheVariants as type
 use Rattle.field.specs.Nulls.{short_half, integer_half, signed, short_is_null, float_is_null, double_is_null}
-use Rattle.triplet.specs.declared.Triplet as read
-use Rattle.triplet.specs.Triplet.{triplet_of}
+use Rattle.std.proofs.Common.{Some, None, Ok, Err, Option, ℤ}
+use Rattle.triplet.specs.Triplet.{Reading as TripletReading, triplet_of}
 use Rattle.header.specs.declared.ColumnLayout.{ColumnLayout}
 use Rattle.header.specs.declared.Layout.{Layout}
 use Rattle.header.specs.Steps.{column_of}
@@ -36,29 +37,28 @@ use Rattle.table.proofs.ValueOfRow.{value_of_row}
 use Rattle.taken.specs.Numbers.{natural, internal_id, number_in}
 use Rattle.load.specs.declared.TableName.{TableName}
 use Rattle.load.specs.declared.Counts.{Counts}
-use Rattle.load.specs.declared.Loaded.TheVariants.{Tile}
-use Rattle.load.specs.Sources.{Files, file_of, index_of, table_in, table_of, tables_of, name_at, table_at, columns_of, number_at_place}
+use Rattle.load.specs.Sources.{given, Files, file_of, index_of, table_in, table_of, tables_of, name_at, table_at, columns_of, number_at_place}
 use Rattle.load.specs.Cells.{cell_in, cell_of}
 use Rattle.load.specs.Load.{load_of, cells_of, column_left}
-use Rattle.load.specs.Words.{loaded, OpensWith, layout_in, count_of, Loads}
+use Rattle.load.specs.Words.{loaded, loaded_value, OpensWith, layout_in, count_of, Loads}
 use Rattle.load.proofs.LoadedExactly.{opened_as, place_found, loaded_exactly}
 
 -- ---- by type
 
 -- a null or a negative number, and no other, is 0
-integer_loads : (bits : ℕ) → natural bits ≡ loaded (integer_of bits)
+integer_loads : (bits : ℕ) → natural bits ≡ loaded_value (integer_of bits)
 unfolding natural
 integer_loads bits =
     bool_cases (eqb bits integer_half)
     (λ b. rw (b, le-ltb bits 2147483648 (omega (arith, eqb-true bits integer_half b))))
     (λ b. bool_cases (ltb bits integer_half) (λ c. rw (b, c)) (λ c. rw (b, c)))
 
-triplet_loads : (x : read.Triplet) → internal_id x ≡ loaded (triplet_of_read x)
-triplet_loads (read.TheVariants.Is ids n) = refl
-triplet_loads (read.TheVariants.Refused q) = refl
+triplet_loads : (x : TripletReading) → internal_id x ≡ loaded (triplet_of_read x)
+triplet_loads (Ok t) = refl
+triplet_loads (Err q) = refl
 
 -- neither of two values stands in a tile
-neither_loads : (b : Bool) (x y : Value) → 0 ≡ loaded x → 0 ≡ loaded y → 0 ≡ loaded (cond b x y)
+neither_loads : (b : Bool) (x y : Value) → 0 ≡ loaded_value x → 0 ≡ loaded_value y → 0 ≡ loaded_value (cond b x y)
 neither_loads true x y e f = e
 neither_loads false x y e f = f
 
@@ -68,8 +68,7 @@ number-shown type.Integer o s c p end = integer_loads (number o s p 4)
 number-shown type.Triplet o s c p end = triplet_loads (triplet_of o (take (end - p) (drop p s)))
 number-shown type.Float o s c p end = let b = number o s p 4 in neither_loads (float_is_null b) (val.FloatNull b) (val.Float b) refl refl
 number-shown type.Double o s c p end = let b = number o s p 8 in neither_loads (double_is_null b) (val.DoubleNull b) (val.Double b) refl refl
-number-shown type.Short o s c p end = let b = number o s p 2 in neither_loads (short_is_null b) val.ShortNull
-    (val.Short (signed short_half b)) refl refl
+number-shown type.Short o s c p end = refl
 number-shown type.Text o s c p end = refl
 number-shown type.Latin o s c p end = refl
 number-shown type.ShortPair o s c p end = refl
@@ -109,7 +108,7 @@ module _ (file index : List ℕ) (most : ℕ) (h : Reading) (n : ℕ) (o : Opens
         ∙ sym (cell_shown t l start end k)
 
 -- ---- THE LENT COLUMN of place k, d before, where a tile was loaded with the counts c
-module _ (f : Files) (most : ℕ) (lengths : List ℕ) (c : Counts) (e : load_of f most lengths ≡ Tile c) (k : ℕ)
+module _ (f : Files) (most : ℕ) (lengths : List ℕ) (c : Counts) (e : load_of f most lengths ≡ Ok c) (k : ℕ)
     (at_place : In 10 k) (d : List ℕ) where
   abbrev n : TableName
   n = table_at k
@@ -119,7 +118,7 @@ module _ (f : Files) (most : ℕ) (lengths : List ℕ) (c : Counts) (e : load_of
   column = column_of (file_of f n) (name_at k)
 
   abbrev left : List ℕ
-  left = column_left (Tile c) f most n k d
+  left = column_left (Ok c) f most n k d
 
   loads : Loads f most lengths c
   loads = (loaded_exactly f most lengths c).0 e
@@ -155,7 +154,7 @@ module _ (f : Files) (most : ℕ) (lengths : List ℕ) (c : Counts) (e : load_of
       ∙ cell_is_value (file_of f n) (index_of f n) most reading (count_of c n) opens i more
       (loads.rows n (suc i) (omega arith, more)) column column_found.1
       ∙ ap (λ (t : Table). loaded (value_of (file_of f n) (index_of f n) t (suc i) column))
-      (sym (opened_table (file_of f n) (index_of f n) most reading (count_of c n) opens))
+      (sym (let t = opened_table (file_of f n) (index_of f n) most reading (count_of c n) opens in ap (λ r. (given r).table) t.1 ∙ t.2))
 
   -- past the rows nothing is written, and the column is as long as before
   pub rest_as_it_was : (i : ℕ) → count_of c n ≤ i → get_or left i 0 ≡ get_or d i 0

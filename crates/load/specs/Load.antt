@@ -1,6 +1,6 @@
 -- "Loading opens the four tables in turn, then tests 17 by place, F, then R, zero (15), room (14, by place), then rows table by table,
 -- writing nothing past the rows."
-use Rattle.std.specs.Prelude.{Bool, cond, List, [], ◌∷◌, ◌++◌, ℕ, zero, suc, eqb, ltb}
+use Rattle.std.specs.Prelude.{Bool, cond, List, [], ◌∷◌, ◌++◌, ℕ, zero, suc, eqb, ltb, Result, Ok, Err}
 use Rattle.laws.specs.Lowest.{lowest, None}
 use Rattle.laws.specs.Buffer.{front}
 use Rattle.refusal.specs.declared.Refusal.{Refusal}
@@ -8,16 +8,13 @@ use Rattle.refusal.specs.Order.{refusal, fine, refused_if, refuses}
 use Rattle.opening.specs.declared.Table.{Table}
 use Rattle.opening.specs.Opening.{table_refusal}
 use Rattle.table.specs.Rows.{row_judged, rows_refusal}
-use Rattle.load.specs.Sources.{Files, file_of, index_of, table_in, tables_of, table_at, columns_of, number_at_place, rows_for}
+use Rattle.load.specs.Sources.{Files, Tables, file_of, index_of, table_in, tables_of, table_at, columns_of, number_at_place, rows_for}
 use Rattle.load.specs.Columns.{Columns, columns}
 use Rattle.load.specs.Cells.{cell_of}
 use Rattle.load.specs.declared.TableName.{TableName}
 use Rattle.load.specs.declared.TableName.TheVariants.{Edg, Fac, Rng, Cnd}
-use Rattle.load.specs.declared.Tables.{Tables}
 use Rattle.load.specs.declared.Finding.{Finding}
 use Rattle.load.specs.declared.Counts.{Counts}
-use Rattle.load.specs.declared.Loaded.{Loaded}
-use Rattle.load.specs.declared.Loaded.TheVariants.{Tile, Refused}
 
 abbrev pub finding : TableName → Refusal → Finding
 finding n q = record { table = n; refusal = q }
@@ -104,12 +101,21 @@ load_finding f most lengths = first_finding (tests f most lengths)
 abbrev pub counts : Tables → Counts
 counts t = record { edges = t.edg.rows; faces = t.fac.rows; rings = t.rng.rows; nodes = t.cnd.rows }
 
-abbrev pub unless_found : Finding → Tables → Loaded
-unless_found q t = cond (eqb q.refusal.number 0) (Tile (counts t)) (Refused q)
+-- WHAT LOADING ANSWERS: the counts of the tile, or what was found
+abbrev pub Loaded : Type 0
+Loaded = Result Counts Finding
+
+-- what is given where nothing is found, or else what is found
+unfoldable pub unless_found : {A : Type 0} → Finding → A → Result A Finding
+unless_found q a = cond (eqb q.refusal.number 0) (Ok a) (Err q)
+
+-- what a test answers in code
+abbrev pub reported : Finding → Result (Unit {0}) Finding
+reported q = unless_found q tt
 
 -- THE LOAD
 unfoldable pub load_of : Files → ℕ → List ℕ → Loaded
-load_of f most lengths = unless_found (load_finding f most lengths) (tables_of f most)
+load_of f most lengths = unless_found (load_finding f most lengths) (counts (tables_of f most))
 
 -- the numbers of the column of place k in table n, row 1 first
 unfoldable pub cells_of : Files → ℕ → TableName → ℕ → ℕ → ℕ
@@ -118,8 +124,8 @@ cells_of f most n k =
 
 -- the lent column of place k in table n afterwards: the rows' numbers and the rest as it was; on a refusal all as it was
 abbrev pub column_left : Loaded → Files → ℕ → TableName → ℕ → List ℕ → List ℕ
-column_left (Tile c) f most n k d = front (cells_of f most n k) (table_in (tables_of f most) n).rows d
-column_left (Refused q) f most n k d = d
+column_left (Ok c) f most n k d = front (cells_of f most n k) (table_in (tables_of f most) n).rows d
+column_left (Err q) f most n k d = d
 
 -- and all ten
 abbrev pub columns_left : Loaded → Files → ℕ → Columns → Columns

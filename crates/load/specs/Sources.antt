@@ -1,17 +1,22 @@
 -- "Loaded from tables edg, fac, rng, cnd with columns start_node, end_node; right_face, left_face, right_edge, left_edge (I or K);
 -- ring_ptr; fac_id, start_edge; first_edge (I or K). Others listed are I. ... In that order the ten have places 1 to 10."
-use Rattle.std.specs.Prelude.{Bool, true, false, cond, List, [], ◌∷◌, ℕ, pred, eqb, ltb, leb, get_or}
+use Rattle.std.specs.Prelude.{Bool, true, false, cond, List, [], ◌∷◌, ℕ, pred, eqb, ltb, leb, get_or, replicate, Result, Ok, Err}
 use Rattle.laws.specs.Texts.{bytes}
 use Rattle.field.specs.declared.FieldType.{FieldType}
 use Rattle.field.specs.Fields.{is_integer, is_triplet}
+use Rattle.limits.specs.Limits.{most_columns}
+use Rattle.refusal.specs.declared.Refusal.{Refusal}
+use Rattle.number.specs.declared.Order.TheVariants.{Least}
 use Rattle.header.specs.declared.Layout.{Layout}
+use Rattle.header.specs.Layouts.{blank_column}
 use Rattle.header.specs.Steps.{column_of}
 use Rattle.opening.specs.declared.Table.{Table}
+use Rattle.opening.specs.declared.Opened.{Opened}
 use Rattle.opening.specs.Opening.{opened_of}
 use Rattle.table.specs.Rows.{column_at, no_such_column}
 use Rattle.load.specs.declared.TableName.{TableName}
 use Rattle.load.specs.declared.TableName.TheVariants.{Edg, Fac, Rng, Cnd}
-use Rattle.load.specs.declared.Tables.{Tables}
+use Rattle.load.specs.declared.OfTables.{OfTables}
 
 -- the four tables, each with its lent index
 pub record Files : Type 0 where
@@ -34,18 +39,39 @@ by_table edg fac rng cnd Fac = fac
 by_table edg fac rng cnd Rng = rng
 by_table edg fac rng cnd Cnd = cnd
 
+abbrev pub in_tables : {A : Type 0} → OfTables A → TableName → A
+in_tables t n = by_table t.edg t.fac t.rng t.cnd n
+
 abbrev pub file_of : Files → TableName → List ℕ
 file_of f n = by_table f.edg f.fac f.rng f.cnd n
 
 abbrev pub index_of : Files → TableName → List ℕ
 index_of f n = by_table f.edx f.fax f.rnx f.cnx n
 
+abbrev pub Tables : Type 0
+Tables = OfTables Table
+
 abbrev pub table_in : Tables → TableName → Table
-table_in t n = by_table t.edg t.fac t.rng t.cnd n
+table_in t n = in_tables t n
+
+-- what stands for a table that is refused: no columns and no rows
+abbrev pub no_layout : Layout
+no_layout = record { order = Least; start = 0; columns = 0; id = 0; width = 0; cols = replicate most_columns blank_column }
+
+abbrev pub nothing_opened : Opened
+nothing_opened =
+    record {
+      table = record { layout = no_layout; rows = 0 };
+      names = record { spans = replicate most_columns (record { start = 0; end = 0 }) };
+    }
+
+abbrev pub given : Result Opened Refusal → Opened
+given (Ok o) = o
+given (Err q) = nothing_opened
 
 -- the tables as their opening left them; `most` is the most rows that the caller takes
 abbrev pub table_of : Files → ℕ → TableName → Table
-table_of f most n = (opened_of (file_of f n) (index_of f n) most).table
+table_of f most n = (given (opened_of (file_of f n) (index_of f n) most)).table
 
 unfoldable pub tables_of : Files → ℕ → Tables
 tables_of f most = record { edg = table_of f most Edg; fac = table_of f most Fac; rng = table_of f most Rng; cnd = table_of f most Cnd }

@@ -1,15 +1,16 @@
 -- Loading in document 01's words: what a value of a table is in a tile, when a tile is loaded, and which finding is given instead.
-use Rattle.std.specs.Prelude.{◌≡◌, ◌⊎◌, true, List, ℕ, pred, ◌+◌, ◌≤◌, ◌<◌, ℤ, pos, negsuc, length}
+use Rattle.std.specs.Prelude.{Some, None, Ok, Err, ◌≡◌, ◌⊎◌, true, List, ℕ, pred, ◌+◌, ◌≤◌, ◌<◌, ℤ, pos, negsuc, length}
 use Rattle.laws.specs.Lowest.{In, Each, LowestFailing}
 use Rattle.refusal.specs.Order.{refusal}
 use Rattle.grammar.specs.Words.{Column, Reading}
 use Rattle.field.specs.Letters.{letter_i, letter_k}
 use Rattle.header.specs.declared.Layout.{Layout}
+use Rattle.header.specs.Layouts.{layout_of}
 use Rattle.header.specs.Names.{same_text}
 use Rattle.header.specs.Words.{column_at, AcceptedHeader}
 use Rattle.table.specs.declared.Value.{Value}
-use Rattle.table.specs.declared.Value.TheVariants.{Short, ShortNull, Integer, IntegerNull, Float, FloatNull, Double, DoubleNull, Triplet}
-use Rattle.table.specs.declared.Value.TheVariants.{Text, Date, Coordinates, Empty, Refused}
+use Rattle.table.specs.declared.Value.TheVariants.{Short, Integer, Float, FloatNull, Double, DoubleNull, Triplet, Text, Date, Coordinates, Empty}
+use Rattle.table.specs.Values.{ValueRead}
 use Rattle.table.specs.Rows.{bound_of}
 use Rattle.opening.specs.Words as opening
 use Rattle.table.specs.Words as table
@@ -29,21 +30,23 @@ not_negative (negsuc n) = 0
 
 -- "From K the internal id is taken; absent, null or negative numbers load as 0." (An absent id of a triplet reads as 0.) Values of
 -- other types stand in no column of a tile
-abbrev pub loaded : Value → ℕ
-loaded (Integer v) = not_negative v
-loaded IntegerNull = 0
-loaded (Triplet ids) = ids.id
-loaded (Short v) = 0
-loaded ShortNull = 0
-loaded (Float b) = 0
-loaded (FloatNull b) = 0
-loaded (Double b) = 0
-loaded (DoubleNull b) = 0
-loaded (Text p n) = 0
-loaded (Date p n) = 0
-loaded (Coordinates p n) = 0
-loaded Empty = 0
-loaded (Refused q) = 0
+abbrev pub loaded_value : Value → ℕ
+loaded_value (Integer (Some v)) = not_negative v
+loaded_value (Integer None) = 0
+loaded_value (Triplet ids) = ids.id
+loaded_value (Short v) = 0
+loaded_value (Float b) = 0
+loaded_value (FloatNull b) = 0
+loaded_value (Double b) = 0
+loaded_value (DoubleNull b) = 0
+loaded_value (Text e) = 0
+loaded_value (Date e) = 0
+loaded_value (Coordinates e) = 0
+loaded_value Empty = 0
+
+abbrev pub loaded : ValueRead → ℕ
+loaded (Ok v) = loaded_value v
+loaded (Err q) = 0
 
 -- ---- what loading asks of the four tables
 
@@ -77,7 +80,7 @@ RoomFor f lengths k = rows_of f (table_at k) ≤ number_at_place lengths k
 
 -- where row i of table n starts and ends
 abbrev pub layout_in : Files → TableName → Layout
-layout_in f n = opening.layout_of (file_of f n)
+layout_in f n = layout_of (file_of f n)
 
 abbrev pub row_end : Files → TableName → ℕ → ℕ
 row_end f n i = bound_of (layout_in f n) (index_of f n) i

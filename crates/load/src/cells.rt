@@ -4,15 +4,17 @@ ghost use Rattle.std.specs.Prelude.{◌≡◌, false, ◌≤◌, ◌<◌, length
 ghost use Rattle.laws.specs.Buffer.{front};
 ghost use Rattle.limits.specs.Limits.{most_rows};
 ghost use Rattle.table.specs.Rows.{no_such_column};
-ghost use Rattle.load.specs.Sources.{number_at_place};
-ghost use Rattle.load.specs.Cells.{cell_of, EdgeColumns, SixThere};
+ghost use Rattle.load.specs.Lent.{contents, SameColumns};
+ghost use Rattle.load.specs.Cells.{cell_of, EdgeColumns, EdgeRoom, SixThere, edges_written};
 ghost use Rattle.load.specs.Serving.CellPlans.{letters_of, offsets_of, origin_of, places_for, cells_at};
 ghost use Rattle.load.specs.Load.{RowsJudged};
 
-use header::Layout;
+use crate::ColumnsMut;
+use header::{Layout, Span};
 use limits::MOST_COLUMNS;
 use number::Order;
 use opening::Table;
+use table::rows::Rows;
 
 // An edge's row has six of the ten columns.
 const SIX: usize = 6;
@@ -20,15 +22,12 @@ const SIX: usize = 6;
 // ---- where the columns of a row start
 
 // In rows of one width, counted from the row's start: of all columns.
-fn offsets_of(layout: Layout) -> [usize; MOST_COLUMNS]
-    ensures { result ≡ offsets_of layout }
+fn offsets_of(layout: &Layout) -> [usize; MOST_COLUMNS]
+    ensures { result ≡ offsets_of layout.now }
 {
     let mut offsets = [0usize; MOST_COLUMNS];
-    let mut k: usize = 0;
-    while k < MOST_COLUMNS {
-        let c = layout.cols[k];
-        offsets[k] = c.offset as usize;
-        k += 1;
+    for k in 0..MOST_COLUMNS {
+        offsets[k] = layout.cols[k].offset as usize;
     }
     offsets
 }
@@ -36,23 +35,20 @@ fn offsets_of(layout: Layout) -> [usize; MOST_COLUMNS]
 // The next row: walked past the columns 1..n where its width is none, which leaves their places, counted from the file's start; else
 // they stay as they were, counted from the row's. Gives where they are counted from.
 fn walk_row(
+    rows: &Rows,
     file: &[u8],
-    plan: &[u64; MOST_COLUMNS],
     n: usize,
-    order: Order,
-    width: u32,
-    start: usize,
-    end: usize,
+    lies: Span,
     places: &mut [usize; MOST_COLUMNS],
 ) -> usize
-    ensures value { result ≡ origin_of width start }
-    ensures places_after { places.new ≡ places_for order file.now plan.now n width start end places.old }
+    ensures value { result ≡ origin_of rows.now.width lies.start }
+    ensures places_after { places.new ≡ places_for rows.now.order file.now rows.now.plan n rows.now.width lies.start lies.end places.old }
 {
-    if width == 0 {
-        table::rows::walk(file, plan, n, order, start, end, places);
+    if rows.width == 0 {
+        let _ = rows.walk(file, n, lies, places);
         return 0;
     }
-    start
+    lies.start
 }
 
 // ---- one column
@@ -67,35 +63,22 @@ fn put(column: &mut [u32], i: usize, v: u32)
 }
 
 // One column of a table.
-pub(crate) fn write_column(file: &[u8], index: &[u8], table: Table, column: usize, out: &mut [u32])
-    requires rows_le_most_rows { table.rows ≤ most_rows }
-    requires rows_judged { RowsJudged file.now index.now table }
-    requires column_value { no_such_column table.layout column ≡ false }
-    requires rows_in_bounds { table.rows ≤ length out.old }
-    ensures { out.new ≡ front (cell_of file.now index.now table.layout column) table.rows out.old }
+pub(crate) fn write_column(file: &[u8], index: &[u8], table: &Table, column: usize, out: &mut [u32])
+    requires rows_le_most_rows { table.now.rows ≤ most_rows }
+    requires rows_judged { RowsJudged file.now index.now table.now }
+    requires column_value { no_such_column table.now.layout column ≡ false }
+    requires rows_in_bounds { table.now.rows ≤ length out.old }
+    ensures { out.new ≡ front (cell_of file.now index.now table.now.layout column) table.now.rows out.old }
 {
-    let layout = table.layout;
-    let rows = table.rows;
+    let layout = &table.layout;
     let order = layout.order;
-    let c = layout.cols[column - 1];
-    let kind = c.kind;
-    let letter = kind.letter();
-    let plan = table::rows::plan_of(layout);
+    let letter = layout.cols[column - 1].kind.letter();
+    let rows = Rows::of(layout);
     let mut places = offsets_of(layout);
     let mut start = layout.start as usize;
-    let mut i: usize = 0;
-    while i < rows {
-        let end = table::rows::bound_by(index, order, layout.start, layout.width, i + 1);
-        let origin = walk_row(
-            file,
-            &plan,
-            column,
-            order,
-            layout.width,
-            start,
-            end,
-            &mut places,
-        );
+    for i in 0..table.rows {
+        let end = rows.bound(index, i + 1);
+        let origin = walk_row(&rows, file, column, Span { start, end }, &mut places);
         let cell = taken::number_by(
             file,
             letter,
@@ -105,24 +88,19 @@ pub(crate) fn write_column(file: &[u8], index: &[u8], table: Table, column: usiz
         );
         put(out, i, cell);
         start = end;
-        i += 1;
     }
 }
 
 // ---- the six columns of an edge, by one walk over its row
 
 // The letters of the six columns' types.
-fn edge_letters(layout: Layout, columns: [usize; 10]) -> [u8; 6]
-    requires { SixThere columns }
-    ensures { result ≡ letters_of layout columns }
+fn edge_letters(layout: &Layout, columns: &[usize; 10]) -> [u8; 6]
+    requires { SixThere columns.now }
+    ensures { result ≡ letters_of layout.now columns.now }
 {
     let mut letters = [0u8; 6];
-    let mut k: usize = 0;
-    while k < SIX {
-        let c = layout.cols[columns[k] - 1];
-        let kind = c.kind;
-        letters[k] = kind.letter();
-        k += 1;
+    for k in 0..SIX {
+        letters[k] = layout.cols[columns[k] - 1].kind.letter();
     }
     letters
 }
@@ -141,8 +119,7 @@ fn edge_cells(
     ensures { result ≡ cells_at order file.now letters.now columns.now places.now origin end }
 {
     let mut cells = [0u32; 6];
-    let mut k: usize = 0;
-    while k < SIX {
+    for k in 0..SIX {
         let column = columns[k];
         cells[k] = taken::number_by(
             file,
@@ -151,7 +128,6 @@ fn edge_cells(
             end,
             order,
         );
-        k += 1;
     }
     cells
 }
@@ -160,55 +136,39 @@ fn edge_cells(
 pub(crate) fn write_edges(
     file: &[u8],
     index: &[u8],
-    table: Table,
-    columns: [usize; 10],
-    start_node: &mut [u32],
-    end_node: &mut [u32],
-    right_face: &mut [u32],
-    left_face: &mut [u32],
-    right_edge: &mut [u32],
-    left_edge: &mut [u32],
+    table: &Table,
+    columns: &[usize; 10],
+    out: &mut ColumnsMut,
 )
-    requires rows_le_most_rows { table.rows ≤ most_rows }
-    requires rows_judged { RowsJudged file.now index.now table }
-    requires edge_columns { EdgeColumns table.layout columns }
-    requires rows_in_bounds { (table.rows ≤ length start_node.old) × (table.rows ≤ length end_node.old) × (table.rows ≤ length right_face.old) ×
-        (table.rows ≤ length left_face.old) × (table.rows ≤ length right_edge.old) × (table.rows ≤ length left_edge.old) }
-    ensures start_node_after { start_node.new ≡ front (cell_of file.now index.now table.layout (number_at_place columns 1)) table.rows start_node.old }
-    ensures end_node_after { end_node.new ≡ front (cell_of file.now index.now table.layout (number_at_place columns 2)) table.rows end_node.old }
-    ensures right_face_after { right_face.new ≡ front (cell_of file.now index.now table.layout (number_at_place columns 3)) table.rows right_face.old }
-    ensures left_face_after { left_face.new ≡ front (cell_of file.now index.now table.layout (number_at_place columns 4)) table.rows left_face.old }
-    ensures right_edge_after { right_edge.new ≡ front (cell_of file.now index.now table.layout (number_at_place columns 5)) table.rows right_edge.old }
-    ensures left_edge_after { left_edge.new ≡ front (cell_of file.now index.now table.layout (number_at_place columns 6)) table.rows left_edge.old }
+    requires rows_le_most_rows { table.now.rows ≤ most_rows }
+    requires rows_judged { RowsJudged file.now index.now table.now }
+    requires edge_columns { EdgeColumns table.now.layout columns.now }
+    requires rows_in_bounds { EdgeRoom table.now.rows (contents out.old) }
+    ensures columns_after { contents out.new ≡ edges_written file.now index.now table.now columns.now (contents out.old) }
+    ensures same_columns { SameColumns out.old out.new }
 {
-    let layout = table.layout;
-    let rows = table.rows;
+    let layout = &table.layout;
     let order = layout.order;
-    let plan = table::rows::plan_of(layout);
+    let rows = Rows::of(layout);
     let letters = edge_letters(layout, columns);
     let mut places = offsets_of(layout);
     let mut start = layout.start as usize;
-    let mut i: usize = 0;
-    while i < rows {
-        let end = table::rows::bound_by(index, order, layout.start, layout.width, i + 1);
+    for i in 0..table.rows {
+        let end = rows.bound(index, i + 1);
         let origin = walk_row(
+            &rows,
             file,
-            &plan,
             layout.columns,
-            order,
-            layout.width,
-            start,
-            end,
+            Span { start, end },
             &mut places,
         );
-        let cells = edge_cells(file, &letters, &columns, &places, origin, end, order);
-        put(start_node, i, cells[0]);
-        put(end_node, i, cells[1]);
-        put(right_face, i, cells[2]);
-        put(left_face, i, cells[3]);
-        put(right_edge, i, cells[4]);
-        put(left_edge, i, cells[5]);
+        let cells = edge_cells(file, &letters, columns, &places, origin, end, order);
+        put(out.start_node, i, cells[0]);
+        put(out.end_node, i, cells[1]);
+        put(out.right_face, i, cells[2]);
+        put(out.left_face, i, cells[3]);
+        put(out.right_edge, i, cells[4]);
+        put(out.left_edge, i, cells[5]);
         start = end;
-        i += 1;
     }
 }

@@ -1,18 +1,18 @@
 // The tests between opening and rows: 17 by place, F, then R, zero (15), room (14, by place).
 ghost use Rattle.std.specs.Prelude.{◌≡◌, ◌≤◌, ◌<◌};
-ghost use Rattle.laws.specs.Lowest.{lowest};
+ghost use Rattle.laws.specs.Lowest.{lowest, found};
 ghost use Rattle.limits.specs.Limits.{most_columns};
 ghost use Rattle.table.specs.Rows.{column_at};
 ghost use Rattle.load.specs.Sources.{table_at, triplets_too, type_fits, fitting, rows_for};
-ghost use Rattle.load.specs.Serving.Named.{column_by, columns_by};
-ghost use Rattle.load.specs.Load.{missing, column_finding, empty_finding, too_short, room_finding};
-ghost use Rattle.load.specs.Serving.Stages.{fit_finding};
+ghost use Rattle.load.specs.Serving.Named.{column_by, columns_by, column_placed, tables_among};
+ghost use Rattle.load.specs.Load.{unless_found, reported, column_finding, empty_finding, too_short, room_finding};
+ghost use Rattle.load.specs.Serving.Stages.{fitted};
 
-use crate::{Finding, TableName, TableNames, Tables};
+use crate::{Finding, OfTables, Sources, TableName};
 use field::FieldType;
-use header::{Layout, Names};
-use opening::Table;
-use refusal::{OVER_LIMIT, TOO_SHORT, WRONG_COLUMN};
+use header::Layout;
+use opening::Opened;
+use refusal::Kind;
 
 // The places of a tile's columns.
 const PLACES: usize = 10;
@@ -60,148 +60,122 @@ fn type_fits(place: usize, kind: FieldType) -> bool
 }
 
 // The type of a column.
-fn column_kind(layout: Layout, column: usize) -> FieldType
+fn column_kind(layout: &Layout, column: usize) -> FieldType
     requires { (0 < column) × (column ≤ most_columns) }
-    ensures { result ≡ (column_at layout column).kind }
+    ensures { result ≡ (column_at layout.now column).kind }
 {
-    let c = layout.cols[column - 1];
-    c.kind
+    layout.cols[column - 1].kind
 }
 
-// The column, if the table has it and its type fits the place, or 0.
-fn fit(layout: Layout, place: usize, column: usize) -> usize
-    ensures { result ≡ fitting layout place column }
+// The column, if the table has it and its type fits the place.
+fn fit(layout: &Layout, place: usize, column: usize) -> Option<usize>
+    ensures { result ≡ found (fitting layout.now place column) }
 {
-    if table::no_such_column(layout, column) {
-        return 0;
+    if table::no_such_column(*layout, column) {
+        return None;
     }
     if type_fits(place, column_kind(layout, column)) {
-        return column;
+        return Some(column);
     }
-    0
+    None
 }
 
-// The column of a name for its place, found by where the names lie: no header is judged anew.
-fn column_by(file: &[u8], table: Table, names: Names, place: usize, name: &[u8]) -> usize
-    ensures { result ≡ column_by file.now table names place name.now }
+// The column of a name for its place in what was opened of its table, found by where the names lie: no header is judged anew.
+fn column_by(file: &[u8], opened: &Opened, place: usize, name: &[u8]) -> Option<usize>
+    ensures { result ≡ found (column_by file.now opened.now place name.now) }
 {
-    let layout = table.layout;
-    fit(
-        layout,
-        place,
-        header::column_among(file, names, layout.columns, name),
-    )
+    let layout = &opened.table.layout;
+    let column = header::column_among(file, opened.names, layout.columns, name)?;
+    fit(layout, place, column)
 }
 
-// The numbers of the ten columns, by their places; 0 for one that is missing or of a wrong type.
-pub(crate) fn find_columns(
-    edg: &[u8],
-    fac: &[u8],
-    rng: &[u8],
-    cnd: &[u8],
-    tables: Tables,
-    names: TableNames,
-) -> [usize; 10]
-    ensures { result ≡ columns_by edg.now fac.now rng.now cnd.now tables names }
+// The column of a place, or 17 where it is missing or of a wrong type.
+fn find_column(
+    sources: &Sources,
+    opened: &OfTables<Opened>,
+    place: usize,
+    name: &[u8],
+) -> Result<usize, Finding>
+    ensures { result ≡ column_placed sources.now opened.now place name.now }
 {
-    let e = tables.edg;
-    let f = tables.fac;
-    let g = tables.rng;
-    let h = tables.cnd;
-    let edge_names = names.edg;
-    let face_names = names.fac;
-    let ring_names = names.rng;
-    let node_names = names.cnd;
-    [
-        column_by(edg, e, edge_names, 1, b"start_node"),
-        column_by(edg, e, edge_names, 2, b"end_node"),
-        column_by(edg, e, edge_names, 3, b"right_face"),
-        column_by(edg, e, edge_names, 4, b"left_face"),
-        column_by(edg, e, edge_names, 5, b"right_edge"),
-        column_by(edg, e, edge_names, 6, b"left_edge"),
-        column_by(fac, f, face_names, 7, b"ring_ptr"),
-        column_by(rng, g, ring_names, 8, b"fac_id"),
-        column_by(rng, g, ring_names, 9, b"start_edge"),
-        column_by(cnd, h, node_names, 10, b"first_edge"),
-    ]
-}
-
-// The lowest place whose column is missing, or 0.
-fn missing_place(columns: [usize; 10]) -> usize
-    ensures { result ≡ lowest (missing columns) 10 }
-{
-    let mut i: usize = 0;
-    while i < PLACES {
-        if columns[i] == 0 {
-            return i + 1;
-        }
-        i += 1;
+    let table = table_at(place);
+    match column_by(sources.file(table), opened.of(table), place, name) {
+        Some(column) => Ok(column),
+        None => Err(Finding {
+            table,
+            refusal: Kind::WrongColumn.at(place),
+        }),
     }
-    0
 }
 
-// The lowest place whose lent column is too short for its table's rows, or 0.
-fn short_place(lengths: [usize; 10], rows: [usize; 10]) -> usize
-    ensures value { result ≡ lowest (too_short lengths rows) 10 }
-    ensures upper_bound { result ≤ 10 }
+// The numbers of the ten columns, by their places.
+fn find_columns(sources: &Sources, opened: &OfTables<Opened>) -> Result<[usize; 10], Finding>
+    ensures { result ≡ unless_found (column_finding (columns_by sources.now opened.now)) (columns_by sources.now opened.now) }
 {
-    let mut i: usize = 0;
-    while i < PLACES {
-        if lengths[i] < rows[i] {
-            return i + 1;
-        }
-        i += 1;
-    }
-    0
+    Ok([
+        find_column(sources, opened, 1, b"start_node")?,
+        find_column(sources, opened, 2, b"end_node")?,
+        find_column(sources, opened, 3, b"right_face")?,
+        find_column(sources, opened, 4, b"left_face")?,
+        find_column(sources, opened, 5, b"right_edge")?,
+        find_column(sources, opened, 6, b"left_edge")?,
+        find_column(sources, opened, 7, b"ring_ptr")?,
+        find_column(sources, opened, 8, b"fac_id")?,
+        find_column(sources, opened, 9, b"start_edge")?,
+        find_column(sources, opened, 10, b"first_edge")?,
+    ])
 }
 
-fn judge_columns(columns: [usize; 10]) -> Finding
-    ensures { result ≡ column_finding columns }
-{
-    let place = missing_place(columns);
-    if place == 0 {
-        return crate::nothing_found();
-    }
-    crate::find(table_at(place), refusal::refuse(WRONG_COLUMN, place))
-}
-
-fn judge_empty(table: TableName, rows: usize) -> Finding
-    ensures { result ≡ empty_finding table rows }
+// "F, then R, zero (15)"
+fn judge_empty(table: TableName, rows: usize) -> Result<(), Finding>
+    ensures { result ≡ reported (empty_finding table rows) }
 {
     if rows == 0 {
-        return crate::find(table, refusal::refuse(OVER_LIMIT, 0));
+        return Err(Finding {
+            table,
+            refusal: Kind::OverLimit.at(0),
+        });
     }
-    crate::find(table, refusal::no_refusal())
-}
-
-fn judge_room(lengths: [usize; 10], rows: [usize; 10]) -> Finding
-    ensures { result ≡ room_finding lengths rows }
-{
-    let place = short_place(lengths, rows);
-    if place == 0 {
-        return crate::nothing_found();
-    }
-    crate::find(table_at(place), refusal::refuse(TOO_SHORT, rows[place - 1]))
+    Ok(())
 }
 
 // The rows of each place's table.
-fn rows_for(tables: Tables) -> [usize; 10]
-    ensures { result ≡ rows_for tables }
+fn rows_for(opened: &OfTables<Opened>) -> [usize; 10]
+    ensures { result ≡ rows_for (tables_among opened.now) }
 {
-    let e = tables.edg.rows;
-    let f = tables.fac.rows;
-    let g = tables.rng.rows;
-    let h = tables.cnd.rows;
+    let e = opened.edg.table.rows;
+    let f = opened.fac.table.rows;
+    let g = opened.rng.table.rows;
+    let h = opened.cnd.table.rows;
     [e, e, e, e, e, e, f, g, g, h]
 }
 
-// 17, 15, 14.
-pub(crate) fn judge_fit(tables: Tables, columns: [usize; 10], lengths: [usize; 10]) -> Finding
-    ensures { result ≡ fit_finding tables columns lengths }
+// 14 for the lowest place whose lent column is too short for its table's rows.
+fn judge_room(lengths: [usize; 10], rows: [usize; 10]) -> Result<(), Finding>
+    ensures { result ≡ reported (room_finding lengths rows) }
 {
-    let a = judge_columns(columns);
-    let b = judge_empty(TableName::Fac, tables.fac.rows);
-    let c = judge_empty(TableName::Rng, tables.rng.rows);
-    let d = judge_room(lengths, rows_for(tables));
-    crate::first_of_four(a, b, c, d)
+    for i in 0..PLACES {
+        if lengths[i] < rows[i] {
+            return Err(Finding {
+                table: table_at(i + 1),
+                refusal: Kind::TooShort.at(rows[i]),
+            });
+        }
+    }
+    Ok(())
+}
+
+// 17, 15, 14; the numbers of the ten columns.
+pub(crate) fn judge_fit(
+    sources: &Sources,
+    opened: &OfTables<Opened>,
+    lengths: [usize; 10],
+) -> Result<[usize; 10], Finding>
+    ensures { result ≡ fitted sources.now opened.now lengths }
+{
+    let columns = find_columns(sources, opened)?;
+    judge_empty(TableName::Fac, opened.fac.table.rows)?;
+    judge_empty(TableName::Rng, opened.rng.table.rows)?;
+    judge_room(lengths, rows_for(opened))?;
+    Ok(columns)
 }

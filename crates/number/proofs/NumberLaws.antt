@@ -1,15 +1,17 @@
 -- The laws of numbers in bytes, over the width and the byte order.
-use mathlib.Core.Path.{◌≡◌, refl, sym, ap, ◌∙◌}
+use mathlib.Core.Path.{◌≡◌, refl, sym, ap, ap₂, ◌∙◌}
 use mathlib.Core.Logic.{by_cases}
-use mathlib.Core.List.{List, [], ◌∷◌, ◌++◌, reverse, reverse_aux, reverse-cons, reverse-reverse, append_assoc}
-use Prim.Native.Nat.{ℕ, zero, suc, ◌+◌, ◌*◌, ◌/◌, ◌%◌, ◌^◌, ◌≤◌, ◌<◌}
+use mathlib.Core.List.{List, [], ◌∷◌, ◌++◌, reverse, reverse_aux, reverse-append, reverse-cons, reverse-reverse, append_assoc}
+use Prim.Native.Nat.{ℕ, zero, suc, ◌+◌, ◌-◌, ◌*◌, ◌/◌, ◌%◌, ◌^◌, ◌≤◌, ◌<◌}
 use native.Mathlib.Omega.{arith}
-use native.Mathlib.Numerals.{add-one}
-use native.Mathlib.Nat.{pow-suc, zero-add, add-zero, add-suc, div-add-mod', mod-eq_of_lt}
+use native.Mathlib.Nat.{one-mul, mul-add, mul_assoc, mul_comm, div-div-eq-div-mul, pow-suc, zero-add, add-zero, div-add-mod'}
 use native.Mathlib.Decide.{dec_lt, dec_le}
 use borrow.Author.Tests.{le-leb, lt-leb}
-use lib.ListN.{length, get_or, take, drop, length-append, length-drop, length-take, take-append-drop, get_or-eq_default}
-use lib.Seq.{sets, length-sets, drop-cons, take-append-le, drop-append-le, take_at, drop_at, drop-drop, get_or-drop, get_or-take, length-take-le}
+use lib.ListN.{length-reverse, replicate, length, get_or, take, drop, length-append, length-drop, length-take, take-append-drop, get_or-eq_default}
+use lib.Seq.{take-suc, take_all, sets, length-sets, take-append-le, drop-append-le, take_at, drop_at, drop-drop, get_or-drop, get_or-take, length-take-le}
+use mir.Syntax.{Width}
+use Rattle.std.specs.Int.{byte_at, byte_len, byte_worth, bytes_low_first, sum_through, from_le_bytes, from_be_bytes, to_le_bytes}
+use borrow.Rule.Slice.PartMut.{put_mid}
 use Rattle.laws.proofs.LentLaws.{stored_run, sets_other}
 use Rattle.number.specs.Bytes.{least_first, digits, in_order, value, bytes_of, number, written, AreBytes}
 use Rattle.number.specs.declared.Order.{Order}
@@ -20,16 +22,9 @@ pub length_digits : (w v : ℕ) → length (digits w v) ≡ w
 length_digits zero v = refl
 length_digits (suc w) v = ap suc (length_digits w (v / 256))
 
-length_reversed : (l : List ℕ) → length (reverse l) ≡ length l
-length_reversed l = go l [] ∙ add-zero (length l)
-  where
-    go : (l r : List ℕ) → length (reverse_aux l r) ≡ length l + length r
-    go [] r = sym (zero-add (length r))
-    go (x ∷ l) r = go l (x ∷ r) ∙ omega arith
-
 length-in_order : (o : Order) (l : List ℕ) → length (in_order o l) ≡ length l
 length-in_order Least l = refl
-length-in_order Most l = length_reversed l
+length-in_order Most l = length-reverse l
 
 pub length_bytes : (o : Order) (w v : ℕ) → length (bytes_of o w v) ≡ w
 unfolding bytes_of
@@ -132,64 +127,24 @@ written_nothing o s at v =
     length_0 [] e = refl
     length_0 (x ∷ l) e = absurd (omega arith)
 
--- the w elements from a place on, one by one, and those from k places after it
-abbrev after : List ℕ → ℕ → ℕ → ℕ → List ℕ
-after s at k zero = []
-after s at k (suc w) = get_or s (at + k) 0 ∷ after s at (suc k) w
-
-abbrev pub following : List ℕ → ℕ → ℕ → List ℕ
-following s at zero = []
-following s at (suc w) = get_or s at 0 ∷ after s at 1 w
-
-part_after : (s : List ℕ) (w at k : ℕ) → at + k + w ≤ length s → take w (drop (at + k) s) ≡ after s at k w
-part_after s zero at k h = refl
-part_after s (suc w) at k h =
-    rw (drop-cons s (at + k) 0 (omega arith), ← add-suc at k, part_after s w at (suc k) (omega arith))
-
-part_following : (s : List ℕ) (w at : ℕ) → at + w ≤ length s → take w (drop at s) ≡ following s at w
-part_following s zero at h = refl
-part_following s (suc w) at h = rw (drop-cons s at 0 (omega arith), ← add-one at, part_after s w at 1 (omega arith))
-
--- what straight-line code reads, in either order and at every width
-pub read_by : (o : Order) (s : List ℕ) (at w : ℕ) → at + w ≤ length s → number o s at w ≡ least_first (in_order o (following s at w))
-unfolding value
-read_by o s at w h = number_inside o s at w h ∙ ap (λ (l : List ℕ). least_first (in_order o l)) (part_following s w at h)
-
--- one byte is the same in either order
-one_byte : (o : Order) (b : ℕ) → least_first (in_order o (b ∷ [])) ≡ b
-one_byte Least b = omega arith
-one_byte Most b = omega arith
-
-pub read_one : (o : Order) (s : List ℕ) (at : ℕ) → at + 1 ≤ length s → number o s at 1 ≡ get_or s at 0
-read_one o s at h = read_by o s at 1 h ∙ one_byte o (get_or s at 0)
-
--- what straight-line code writes
-pub write_by : (o : Order) (s : List ℕ) (at w v : ℕ) → at + w ≤ length s → sets s at (bytes_of o w v) ≡ written o s at w v
+-- what storing the bytes one after the other writes
+write_by : (o : Order) (s : List ℕ) (at w v : ℕ) → at + w ≤ length s → sets s at (bytes_of o w v) ≡ written o s at w v
 write_by o s at w v h =
     let n = length_bytes o w v in
     stored_run (bytes_of o w v) s at (omega arith)
     ∙ ap (λ (k : ℕ). take at s ++ (bytes_of o w v ++ drop (at + k) s)) n
     ∙ sym (written_inside o s at w v h)
 
--- the same of bytes that are known to be the digits
+-- the same of bytes that are known to be the digits, put in the place of a part of s
 pub written_as : (o : Order) (s : List ℕ) (at w v : ℕ) {l : List ℕ} → l ≡ digits w v → at + w ≤ length s
-    → sets s at (in_order o l) ≡ written o s at w v
+    → put_mid at (at + w - at) s (in_order o l) ≡ written o s at w v
 unfolding bytes_of
-written_as o s at w v e h = ap (λ (l : List ℕ). sets s at (in_order o l)) e ∙ write_by o s at w v h
-
--- eight digits are the last four and the four before them
-pub eight_digits : (v : ℕ) {l m : List ℕ} → l ≡ digits 4 v → m ≡ digits 4 (v / 4294967296) → l ++ m ≡ digits 8 v
-eight_digits v {l} e f =
-    let h : v / 4294967296 ≡ v / 256 / 256 / 256 / 256 = omega arith in
-    ap (λ (k : List ℕ). l ++ k) (f ∙ ap (digits 4) h) ∙ ap (λ (k : List ℕ). k ++ digits 4 (v / 256 / 256 / 256 / 256)) e
-
-one_digit : (o : Order) (v : ℕ) → v < 256 → bytes_of o 1 v ≡ v ∷ []
-unfolding bytes_of
-one_digit Least v h = ap (λ (b : ℕ). b ∷ []) (mod-eq_of_lt h)
-one_digit Most v h = ap (λ (b : ℕ). b ∷ []) (mod-eq_of_lt h)
-
-pub write_one : (o : Order) (s : List ℕ) (at v : ℕ) → v < 256 → at + 1 ≤ length s → sets s at (v ∷ []) ≡ written o s at 1 v
-write_one o s at v b h = ap (sets s at) (sym (one_digit o v b)) ∙ write_by o s at 1 v h
+written_as o s at w v {l} e h =
+    let k : at + w - at ≡ w = omega arith in
+    ap (λ (n : ℕ). take at s ++ (in_order o l ++ drop n (drop at s))) k
+    ∙ ap (λ (m : List ℕ). take at s ++ (in_order o m ++ drop w (drop at s))) e
+    ∙ ap (λ (m : List ℕ). take at s ++ (in_order o (digits w v) ++ m)) (drop-drop w at s)
+    ∙ sym (written_inside o s at w v h)
 
 -- a part of bytes is bytes
 bytes_part : (s : List ℕ) (at w : ℕ) → AreBytes s → AreBytes (take w (drop at s))
@@ -258,3 +213,102 @@ written_other o s at w v j out =
     by_cases (dec_le (at + w) (length s))
     (λ h. ap (λ (l : List ℕ). get_or l j 0) (sym (write_by o s at w v h)) ∙ sets_other (bytes_of o w v) s at j (rw (length_bytes o w v) out))
     (λ h. ap (λ (l : List ℕ). get_or l j 0) (written_outside o s at w v (omega arith)))
+
+-- ---- std's bytes and numbers
+worth : (i b : ℕ) → byte_worth i b ≡ b * 256 ^ i
+worth zero b = omega arith
+worth (suc i) b = refl
+
+byte : (i v : ℕ) → byte_at i v ≡ v / 256 ^ i % 256
+byte zero v = omega arith
+byte (suc i) v = refl
+
+least_append : (l m : List ℕ) → least_first (l ++ m) ≡ least_first l + 256 ^ length l * least_first m
+least_append [] m = omega arith
+least_append (b ∷ l) m =
+    rw (least_append l m, pow-suc 256 (length l), mul_comm (256 ^ length l) 256, mul_assoc 256 (256 ^ length l) (least_first m)) (omega arith)
+
+-- one byte more
+least_more : (l : List ℕ) (k : ℕ) → k < length l → least_first (take k l) + byte_worth k (get_or l k 0) ≡ least_first (take (suc k) l)
+least_more l k h =
+    ap (λ (n : ℕ). least_first (take k l) + n) (worth k (get_or l k 0) ∙ mul_comm (get_or l k 0) (256 ^ k))
+    ∙ ap (λ (n : ℕ). least_first (take k l) + 256 ^ n * get_or l k 0) (sym (length-take-le k l (omega arith)))
+    ∙ ap (λ (n : ℕ). least_first (take k l) + 256 ^ length (take k l) * n) (sym (add-zero (get_or l k 0)))
+    ∙ sym (least_append (take k l) (get_or l k 0 ∷ []))
+    ∙ ap least_first (sym (take-suc l k 0 h))
+
+-- k + 1 bytes as std adds them
+sum_least : (l : List ℕ) (k : ℕ) → k < length l → sum_through (λ i. byte_worth i (get_or l i 0)) k ≡ least_first (take (suc k) l)
+sum_least l zero h = sym (zero-add (get_or l 0 0)) ∙ least_more l 0 h
+sum_least l (suc k) h =
+    ap (λ (n : ℕ). n + byte_worth (suc k) (get_or l (suc k) 0)) (sum_least l k (omega arith)) ∙ least_more l (suc k) h
+
+pub from_least : (w : Width) (l : List ℕ) → 0 < byte_len w → length l ≡ byte_len w → from_le_bytes w l ≡ least_first l
+from_least w l p e =
+    let s : suc (byte_len w - 1) ≡ byte_len w = omega arith in
+    sum_least l (byte_len w - 1) (omega arith)
+    ∙ ap (λ (k : ℕ). least_first (take k l)) (s ∙ sym e)
+    ∙ ap least_first (take_all (length l) l (omega arith))
+
+-- the same of the most significant first: of k + 1 bytes, the first is worth 256 to the power of those after it
+sum_most : (l : List ℕ) (m k : ℕ) → k ≤ m → k < length l
+    → sum_through (λ i. byte_worth (m - i) (get_or l i 0)) k ≡ 256 ^ (m - k) * least_first (reverse (take (suc k) l))
+sum_most l m zero b h =
+    let z : m - 0 ≡ m = omega arith in
+    rw (z, take-suc l 0 0 h)
+    (worth m (get_or l 0 0) ∙ mul_comm (get_or l 0 0) (256 ^ m) ∙ ap (λ (n : ℕ). 256 ^ m * n) (sym (add-zero (get_or l 0 0))))
+sum_most l m (suc k) b h =
+    let q = 256 ^ (m - suc k) in
+    let x = get_or l (suc k) 0 in
+    let more = least_first (reverse (take (suc k) l)) in
+    let s : m - k ≡ suc (m - suc k) = omega arith in
+    ap (λ (n : ℕ). n + byte_worth (m - suc k) x) (sum_most l m k (omega arith) (omega arith))
+    ∙ ap (λ (n : ℕ). 256 ^ n * more + byte_worth (m - suc k) x) s
+    ∙ ap₂ (λ (n j : ℕ). n * more + j) (pow-suc 256 (m - suc k)) (worth (m - suc k) x)
+    ∙ shifted q x more
+    ∙ ap (λ (r : List ℕ). q * least_first r)
+    (sym (reverse-append (take (suc k) l) (x ∷ [])) ∙ ap reverse (sym (take-suc l (suc k) 0 h)))
+  where
+    shifted : (q x r : ℕ) → q * 256 * r + x * q ≡ q * (x + 256 * r)
+    shifted q x r = omega (arith, mul-add q x (256 * r), mul_assoc q 256 r, mul_comm x q)
+
+low_first : (k i v : ℕ) → bytes_low_first i k v ≡ digits k (v / 256 ^ i)
+low_first zero i v = refl
+low_first (suc k) i v = rw (byte i v, low_first k (suc i) v, div-div-eq-div-mul v (256 ^ i) 256, pow-suc 256 i)
+
+pub to_digits : (w : Width) (v : ℕ) → to_le_bytes w v ≡ digits (byte_len w) v
+to_digits w v = low_first (byte_len w) 0 v ∙ ap (digits (byte_len w)) (omega arith)
+
+-- what the bytes at a place say, from the rest of s as std gives it
+pub number_rest : (o : Order) (s : List ℕ) (at w : ℕ) {rest : List ℕ} → at ≤ length s → rest ≡ take (length s - at) (drop at s)
+    → w ≤ length rest → least_first (in_order o (take w rest)) ≡ number o s at w
+unfolding value
+number_rest o s at w p e h =
+    let d : length (drop at s) ≡ length s - at = length-drop at s in
+    let r = e ∙ take_all (length s - at) (drop at s) (omega (arith, d)) in
+    ap (λ (l : List ℕ). least_first (in_order o (take w l))) r ∙ sym (number_inside o s at w (omega (arith, h, ap length r, d)))
+
+pub from_most : (w : Width) (l : List ℕ) → 0 < byte_len w → length l ≡ byte_len w → from_be_bytes w l ≡ least_first (reverse l)
+from_most w l p e =
+    let m = byte_len w - 1 in
+    let s : suc m ≡ byte_len w = omega arith in
+    let z : m - m ≡ 0 = omega arith in
+    sum_most l m m (omega arith) (omega arith)
+    ∙ ap (λ (n : ℕ). 256 ^ n * least_first (reverse (take (suc m) l))) z
+    ∙ one-mul (least_first (reverse (take (suc m) l)))
+    ∙ ap (λ (k : ℕ). least_first (reverse (take k l))) (s ∙ sym e)
+    ∙ ap (λ (r : List ℕ). least_first (reverse r)) (take_all (length l) l (omega arith))
+
+-- zeros say 0
+least_zeros : (o : Order) (n : ℕ) → least_first (in_order o (replicate n 0)) ≡ 0
+least_zeros Least zero = refl
+least_zeros Least (suc n) = rw (least_zeros Least n) refl
+least_zeros Most n = go n [] refl
+  where
+    go : (n : ℕ) (r : List ℕ) → least_first r ≡ 0 → least_first (reverse_aux (replicate n 0) r) ≡ 0
+    go zero r h = h
+    go (suc n) r h = go n (0 ∷ r) (rw h refl)
+
+-- a place of too few bytes
+pub zeros_outside : (o : Order) (s : List ℕ) (at w : ℕ) → length s < at + w → least_first (in_order o (replicate w 0)) ≡ number o s at w
+zeros_outside o s at w h = least_zeros o w ∙ sym (number_outside o s at w h)

@@ -1,10 +1,8 @@
 -- Unsigned numbers in bytes: "`L` (least significant byte first), `M` (most significant first)". One definition over the width
 -- and the order.
-use Rattle.std.specs.Prelude.{Bool, cond, List, [], ◌∷◌, ◌++◌, reverse, ℕ, zero, suc, ◌+◌, ◌*◌, ◌/◌, ◌%◌, ◌<◌, eqb, leb, length, get_or, take, drop}
+use Rattle.std.specs.Prelude.{Bool, cond, Option, Some, None, List, [], ◌∷◌, ◌++◌, reverse, ℕ, zero, suc, ◌+◌, ◌*◌, ◌/◌, ◌%◌, ◌<◌, eqb, leb, length, get_or, take, drop}
 use Rattle.number.specs.declared.Order.{Order}
 use Rattle.number.specs.declared.Order.TheVariants.{Least, Most}
-use Rattle.number.specs.declared.OrderLetter.{OrderLetter}
-use Rattle.number.specs.declared.OrderLetter.TheVariants.{Is, Unlisted}
 
 -- "Byte 4 is `L`, `M` or `;` (no order letter; read as `L`)"
 abbrev pub letter_l : ℕ
@@ -16,8 +14,8 @@ letter_m = 77
 abbrev pub semicolon : ℕ
 semicolon = 59
 
-unfoldable pub order_of : ℕ → OrderLetter
-order_of b = cond (eqb b letter_l) (Is Least) (cond (eqb b letter_m) (Is Most) (cond (eqb b semicolon) (Is Least) Unlisted))
+unfoldable pub order_of : ℕ → Option Order
+order_of b = cond (eqb b letter_l) (Some Least) (cond (eqb b letter_m) (Some Most) (cond (eqb b semicolon) (Some Least) None))
 
 -- the number that bytes say, the least significant first
 abbrev pub least_first : List ℕ → ℕ

@@ -2,251 +2,156 @@
 // inside the slice reads as 0, and writing one there changes nothing.
 #![tactic(auto)]
 
-ghost use Rattle.std.specs.Prelude.{◌≡◌, List, ◌∷◌, [], ℕ, ◌+◌, ◌-◌, ◌≤◌, length};
-ghost use Rattle.std.proofs.lemmas.List.Edits.{sets};
-ghost use Rattle.number.specs.Bytes.{order_of, least_first, digits, number, written};
+ghost use Rattle.std.specs.Prelude.{◌≡◌, ℕ};
+ghost use Rattle.number.specs.declared.Order.{Order};
+ghost use Rattle.number.specs.Bytes.{order_of, in_order, least_first, digits, number, written};
 
-#[derive(Clone, Copy)]
+#[derive(Clone, Copy, Debug, PartialEq, Eq)]
 pub enum Order {
     Least,
     Most,
 }
 
-// What byte 4 of a file says.
-#[derive(Clone, Copy)]
-pub enum OrderLetter {
-    Is(Order),
-    Unlisted,
-}
-
 // The byte order that a letter gives; no letter (`;`) is read as `L`.
-pub fn order_of(letter: u8) -> OrderLetter
+#[tactic(auto, unfolding(crate::specs::Bytes::order_of))]
+pub fn order_of(letter: u8) -> Option<Order>
     ensures { result ≡ order_of letter }
 {
-    if letter == b'L' {
-        OrderLetter::Is(Order::Least)
-    } else if letter == b'M' {
-        OrderLetter::Is(Order::Most)
-    } else if letter == b';' {
-        OrderLetter::Is(Order::Least)
-    } else {
-        OrderLetter::Unlisted
+    match letter {
+        b'L' | b';' => Some(Order::Least),
+        b'M' => Some(Order::Most),
+        _ => None,
     }
 }
 
-// The number of 2 bytes, the least significant first.
-fn join2(a: u8, b: u8) -> u16
-    ensures { result ≡ least_first (a ∷ b ∷ []) }
-{
-    a as u16 + 256 * (b as u16)
+// An unsigned type of numbers: how many bytes it has, the number that a value is, and both ways between values and bytes.
+pub trait Unsigned: Copy {
+    ghost width: { ℕ };
+
+    ghost as_number: { Self → ℕ };
+
+    fn read_at(s: &[u8], at: usize, order: Order) -> Self
+        ensures { as_number result ≡ number order s.now at width };
+
+    fn write_at(self, s: &mut [u8], at: usize, order: Order)
+        ensures { s.new ≡ written order s.old at width (as_number self) };
 }
 
-// The number of 4 bytes, the least significant first.
-fn join4(a: u8, b: u8, c: u8, d: u8) -> u32
-    ensures { result ≡ least_first (a ∷ b ∷ c ∷ d ∷ []) }
-{
-    a as u32 + 256 * (b as u32 + 256 * (c as u32 + 256 * (d as u32)))
-}
+impl Unsigned for u8 {
+    ghost width = { 1 };
 
-// The number of 8 bytes, the least significant first.
-fn join8(a: u8, b: u8, c: u8, d: u8, e: u8, f: u8, g: u8, h: u8) -> u64
-    ensures { result ≡ least_first (a ∷ b ∷ c ∷ d ∷ e ∷ f ∷ g ∷ h ∷ []) }
-{
-    let low = join4(a, b, c, d);
-    let high = join4(e, f, g, h);
-    low as u64 + 4294967296 * (high as u64)
-}
+    ghost as_number = { λ n. n };
 
-// How many of n bytes stand from a place on: none where it is past the end.
-fn bytes_from(n: usize, at: usize) -> usize
-    ensures { result ≡ n - at }
-{
-    if n < at { 0 } else { n - at }
-}
-
-// The number of one byte at a place; 0 where it does not lie wholly inside.
-pub fn read1(s: &[u8], at: usize, order: Order) -> u8
-    ensures { result ≡ number order s.now at 1 }
-{
-    if bytes_from(s.len(), at) < 1 {
-        return 0;
+    fn read_at(s: &[u8], at: usize, order: Order) -> u8 {
+        let bytes = bytes_at(s, at);
+        match order {
+            Order::Least => u8::from_le_bytes(bytes),
+            Order::Most => u8::from_be_bytes(bytes),
+        }
     }
-    s[at]
-}
 
-// The number of 2 bytes at a place; 0 where it does not lie wholly inside.
-pub fn read2(s: &[u8], at: usize, order: Order) -> u16
-    ensures { result ≡ number order s.now at 2 }
-{
-    if bytes_from(s.len(), at) < 2 {
-        return 0;
-    }
-    match order {
-        Order::Least => join2(s[at], s[at + 1]),
-        Order::Most => join2(s[at + 1], s[at]),
+    fn write_at(self, s: &mut [u8], at: usize, order: Order) {
+        put_bytes(s, at, self.to_le_bytes(), order);
     }
 }
 
-// The number of 4 bytes at a place; 0 where it does not lie wholly inside.
-pub fn read4(s: &[u8], at: usize, order: Order) -> u32
-    ensures { result ≡ number order s.now at 4 }
-{
-    if bytes_from(s.len(), at) < 4 {
-        return 0;
+impl Unsigned for u16 {
+    ghost width = { 2 };
+
+    ghost as_number = { λ n. n };
+
+    fn read_at(s: &[u8], at: usize, order: Order) -> u16 {
+        let bytes = bytes_at(s, at);
+        match order {
+            Order::Least => u16::from_le_bytes(bytes),
+            Order::Most => u16::from_be_bytes(bytes),
+        }
     }
-    match order {
-        Order::Least => join4(s[at], s[at + 1], s[at + 2], s[at + 3]),
-        Order::Most => join4(s[at + 3], s[at + 2], s[at + 1], s[at]),
+
+    fn write_at(self, s: &mut [u8], at: usize, order: Order) {
+        put_bytes(s, at, self.to_le_bytes(), order);
     }
 }
 
-// The number of 8 bytes at a place; 0 where it does not lie wholly inside.
-pub fn read8(s: &[u8], at: usize, order: Order) -> u64
-    ensures { result ≡ number order s.now at 8 }
-{
-    if bytes_from(s.len(), at) < 8 {
-        return 0;
+impl Unsigned for u32 {
+    ghost width = { 4 };
+
+    ghost as_number = { λ n. n };
+
+    fn read_at(s: &[u8], at: usize, order: Order) -> u32 {
+        let bytes = bytes_at(s, at);
+        match order {
+            Order::Least => u32::from_le_bytes(bytes),
+            Order::Most => u32::from_be_bytes(bytes),
+        }
     }
-    match order {
-        Order::Least => join8(
-            s[at],
-            s[at + 1],
-            s[at + 2],
-            s[at + 3],
-            s[at + 4],
-            s[at + 5],
-            s[at + 6],
-            s[at + 7],
-        ),
-        Order::Most => join8(
-            s[at + 7],
-            s[at + 6],
-            s[at + 5],
-            s[at + 4],
-            s[at + 3],
-            s[at + 2],
-            s[at + 1],
-            s[at],
-        ),
+
+    fn write_at(self, s: &mut [u8], at: usize, order: Order) {
+        put_bytes(s, at, self.to_le_bytes(), order);
     }
 }
 
-// Stores one byte from a place on, in the order given.
-fn put1(s: &mut [u8], at: usize, a: u8)
-    requires { at + 1 ≤ length s.old }
-    ensures { s.new ≡ sets s.old at (a ∷ []) }
-{
-    s[at] = a;
-}
+impl Unsigned for u64 {
+    ghost width = { 8 };
 
-// Stores 2 bytes from a place on, in the order given.
-fn put2(s: &mut [u8], at: usize, a: u8, b: u8)
-    requires { at + 2 ≤ length s.old }
-    ensures { s.new ≡ sets s.old at (a ∷ b ∷ []) }
-{
-    s[at] = a;
-    s[at + 1] = b;
-}
+    ghost as_number = { λ n. n };
 
-// Stores 4 bytes from a place on, in the order given.
-fn put4(s: &mut [u8], at: usize, a: u8, b: u8, c: u8, d: u8)
-    requires { at + 4 ≤ length s.old }
-    ensures { s.new ≡ sets s.old at (a ∷ b ∷ c ∷ d ∷ []) }
-{
-    s[at] = a;
-    s[at + 1] = b;
-    s[at + 2] = c;
-    s[at + 3] = d;
-}
+    fn read_at(s: &[u8], at: usize, order: Order) -> u64 {
+        let bytes = bytes_at(s, at);
+        match order {
+            Order::Least => u64::from_le_bytes(bytes),
+            Order::Most => u64::from_be_bytes(bytes),
+        }
+    }
 
-// Stores 8 bytes from a place on, in the order given.
-fn put8(s: &mut [u8], at: usize, a: u8, b: u8, c: u8, d: u8, e: u8, f: u8, g: u8, h: u8)
-    requires { at + 8 ≤ length s.old }
-    ensures { s.new ≡ sets s.old at (a ∷ b ∷ c ∷ d ∷ e ∷ f ∷ g ∷ h ∷ []) }
-{
-    s[at] = a;
-    s[at + 1] = b;
-    s[at + 2] = c;
-    s[at + 3] = d;
-    s[at + 4] = e;
-    s[at + 5] = f;
-    s[at + 6] = g;
-    s[at + 7] = h;
-}
-
-// The last four bytes of a number, the least significant first.
-#[derive(Clone, Copy)]
-struct FourBytes {
-    a: u8,
-    b: u8,
-    c: u8,
-    d: u8,
-}
-
-fn split4(v: u64) -> FourBytes
-    ensures { ◌≡◌ {A = List ℕ} (result.a ∷ result.b ∷ result.c ∷ result.d ∷ []) (digits 4 v) }
-{
-    let v1 = v / 256;
-    let v2 = v1 / 256;
-    let v3 = v2 / 256;
-    FourBytes {
-        a: (v % 256) as u8,
-        b: (v1 % 256) as u8,
-        c: (v2 % 256) as u8,
-        d: (v3 % 256) as u8,
+    fn write_at(self, s: &mut [u8], at: usize, order: Order) {
+        put_bytes(s, at, self.to_le_bytes(), order);
     }
 }
 
-// Writes the number in one byte at a place; nothing where they do not lie wholly inside.
-pub fn write1(s: &mut [u8], at: usize, v: u8, order: Order)
-    ensures { s.new ≡ written order s.old at 1 v }
+// The N bytes at a place; zeros where they do not lie wholly inside. What they say is taken by the caller, in one step for
+// each order: to put them in order first, byte by byte, makes reading up to four times as slow.
+fn bytes_at<const N: usize>(s: &[u8], at: usize) -> [u8; N]
+    ensures { (o : Order) → least_first (in_order o result) ≡ number o s.now at N }
 {
-    if bytes_from(s.len(), at) < 1 {
-        return;
-    }
-    put1(s, at, v);
+    let Some(rest) = s.get(at..) else {
+        return [0; N];
+    };
+    let Some(bytes) = rest.first_chunk::<N>() else {
+        return [0; N];
+    };
+    *bytes
 }
 
-// Writes the number in 2 bytes at a place; nothing where they do not lie wholly inside.
-pub fn write2(s: &mut [u8], at: usize, v: u16, order: Order)
-    ensures { s.new ≡ written order s.old at 2 v }
+// Bytes least significant first as the order has them, and back.
+fn in_order<const N: usize>(mut bytes: [u8; N], order: Order) -> [u8; N]
+    ensures { result ≡ in_order order bytes.entry }
 {
-    if bytes_from(s.len(), at) < 2 {
-        return;
+    if order == Order::Most {
+        bytes.reverse();
     }
-    let low = (v % 256) as u8;
-    let high = (v / 256 % 256) as u8;
-    match order {
-        Order::Least => put2(s, at, low, high),
-        Order::Most => put2(s, at, high, low),
-    }
+    bytes
 }
 
-// Writes the number in 4 bytes at a place; nothing where they do not lie wholly inside.
-pub fn write4(s: &mut [u8], at: usize, v: u32, order: Order)
-    ensures { s.new ≡ written order s.old at 4 v }
+// Writes N bytes at a place, given the least significant first; nothing where they do not lie wholly inside.
+fn put_bytes<const N: usize>(s: &mut [u8], at: usize, bytes: [u8; N], order: Order)
+    ensures { (v : ℕ) → bytes.entry ≡ digits N v → s.new ≡ written order s.old at N v }
 {
-    if bytes_from(s.len(), at) < 4 {
-        return;
-    }
-    let l = split4(v as u64);
-    match order {
-        Order::Least => put4(s, at, l.a, l.b, l.c, l.d),
-        Order::Most => put4(s, at, l.d, l.c, l.b, l.a),
+    if at <= s.len() && N <= s.len() - at {
+        s[at..at + N].copy_from_slice(&in_order(bytes, order));
     }
 }
 
-// Writes the number in 8 bytes at a place; nothing where they do not lie wholly inside.
-pub fn write8(s: &mut [u8], at: usize, v: u64, order: Order)
-    ensures { s.new ≡ written order s.old at 8 v }
+// The number of the type's bytes at a place; 0 where it does not lie wholly inside.
+pub fn read<T: Unsigned>(s: &[u8], at: usize, order: Order) -> T
+    ensures { T.as_number result ≡ number order s.now at T.width }
 {
-    if bytes_from(s.len(), at) < 8 {
-        return;
-    }
-    let l = split4(v);
-    let h = split4(v / 4294967296);
-    match order {
-        Order::Least => put8(s, at, l.a, l.b, l.c, l.d, h.a, h.b, h.c, h.d),
-        Order::Most => put8(s, at, h.d, h.c, h.b, h.a, l.d, l.c, l.b, l.a),
-    }
+    T::read_at(s, at, order)
+}
+
+// Writes the number in the type's bytes at a place; nothing where they do not lie wholly inside.
+pub fn write<T: Unsigned>(s: &mut [u8], at: usize, v: T, order: Order)
+    ensures { s.new ≡ written order s.old at T.width (T.as_number v) }
+{
+    v.write_at(s, at, order);
 }

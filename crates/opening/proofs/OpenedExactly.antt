@@ -3,6 +3,7 @@
 use mathlib.Core.Path.{◌≡◌, refl, sym, ap, ◌∙◌}
 use mathlib.Core.Logic.{◌↔◌, inl, inr, ⊎_elim}
 use mathlib.Core.List.{List}
+use Rattle.std.specs.Prelude.{Ok, Err}
 use Prim.Native.Nat.{ℕ, zero, suc, pred, ◌-◌, ◌*◌, ◌/◌}
 use native.Mathlib.Nat.{mul-div_cancel_left}
 use native.Mathlib.Omega.{arith}
@@ -12,11 +13,12 @@ use Rattle.laws.specs.Lowest.{In}
 use Rattle.refusal.specs.Order.{refusal}
 use Rattle.grammar.specs.Words.{Reading}
 use Rattle.header.specs.declared.Layout.{Layout}
-use Rattle.header.specs.declared.Answer.TheVariants.{Accepted, Refused}
 use Rattle.header.proofs.AcceptedExactly.{accepted_number, accepted_once}
 use Rattle.header.proofs.RefusedExactly.{refused-number}
-use Rattle.opening.specs.Opening.{offset_at, end_at, rows_said, table_refusal, table_of, opened_of}
-use Rattle.opening.specs.Words.{layout_of, FixedBody, IndexedBody, Opens, NeedsIndex, entries_of, rows_in, RefusedWith}
+use Rattle.opening.specs.Opening.{offset_at, end_at, rows_said, table_refusal, table_of, opened, opened_of}
+use Rattle.opening.specs.declared.Opened.{Opened}
+use Rattle.header.specs.Layouts.{layout_of}
+use Rattle.opening.specs.Words.{FixedBody, IndexedBody, Opens, NeedsIndex, entries_of, rows_in, RefusedWith}
 use Rattle.opening.specs.Words.{Test, header_accepted, index_there, rows_few, whole_rows, index_head, entries, last_end, Holds}
 use Rattle.opening.proofs.RowWidth.{OneWidth, NoWidth, some_or_none_varies, no_width_exactly, one_width_exactly, says_one_width, says_no_width}
 use Rattle.opening.proofs.OpeningLaws.{end_first, end_entry}
@@ -116,29 +118,30 @@ module _ (file index : List ℕ) (most : ℕ) where
     λ w. (all_hold_exactly file index most).1 (all_hold w.0 w.1 w.2),
   )
 
-  pub answer_opened_exactly : ((opened_of file index most).answer ≡ Accepted) ↔ ((h : Reading) × (n : ℕ) × Opens file index most h n)
+  pub answer_opened_exactly : (opened_of file index most ≡ Ok (opened file index)) ↔ ((h : Reading) × (n : ℕ) × Opens file index most h n)
   unfolding opened_of
   answer_opened_exactly = (
-    λ e. opened_exactly.0 ((accepted_number (table_refusal file index most)).0 e),
-    λ w. (accepted_number (table_refusal file index most)).1 (opened_exactly.1 w),
+    λ e. opened_exactly.0 ((accepted_number (table_refusal file index most) (opened file index)).0 e),
+    λ w. (accepted_number (table_refusal file index most) (opened file index)).1 (opened_exactly.1 w),
   )
 
   -- THE OPENED TABLE has the header's layout and the n rows
   pub opened_table : (h : Reading) (n : ℕ) → Opens file index most h n
-      → (opened_of file index most).table ≡ record { layout = layout_of file; rows = n }
-  unfolding opened_of
-  opened_table h n o =
-      rw (eq-eqb (table_refusal file index most).number 0 (opened_exactly.1 (h, n, o)))
-      (λ i. record { layout = layout_of file; rows = opened_rows h n o i })
+      → (o : Opened) × (opened_of file index most ≡ Ok o) × (o.table ≡ record { layout = layout_of file; rows = n })
+  opened_table h n o = (
+    opened file index,
+    answer_opened_exactly.1 (h, n, o),
+    λ i. record { layout = layout_of file; rows = opened_rows h n o i },
+  )
 
   -- with one reading and one number of rows
   pub opened_once : (h k : Reading) (n m : ℕ) → Opens file index most h n → Opens file index most k m → (h ≡ k) × (n ≡ m)
   opened_once h k n m o p = (accepted_once file h k o.header p.header, sym (opened_rows h n o) ∙ opened_rows k m p)
 
   -- A TABLE IS REFUSED WITH m AT p EXACTLY WHEN a test fails so and all earlier ones hold
-  pub answer_refused_exactly : (m p : ℕ) → ((opened_of file index most).answer ≡ Refused (refusal m p)) ↔ RefusedWith file index most m p
+  pub answer_refused_exactly : (m p : ℕ) → (opened_of file index most ≡ Err (refusal m p)) ↔ RefusedWith file index most m p
   unfolding opened_of
   answer_refused_exactly m p = (
-    λ e. (refused_exactly_when file index most m p).0 ((refused-number (table_refusal file index most) (refusal m p)).0 e),
-    λ w. (refused-number (table_refusal file index most) (refusal m p)).1 ((refused_exactly_when file index most m p).1 w),
+    λ e. (refused_exactly_when file index most m p).0 ((refused-number (table_refusal file index most) (refusal m p) (opened file index)).0 e),
+    λ w. (refused-number (table_refusal file index most) (refusal m p) (opened file index)).1 ((refused_exactly_when file index most m p).1 w),
   )

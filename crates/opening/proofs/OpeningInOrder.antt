@@ -39,7 +39,8 @@ use Rattle.header.proofs.LayoutMeans.{laid_out_lem}
 use Rattle.limits.specs.Limits.{most_rows}
 use Rattle.opening.specs.Opening.{needs_index, header_size, offset_at, length_at, end_at, entry_wrong, size_wrong, head_wrong}
 use Rattle.opening.specs.Opening.{index_refusal, fixed_refusal, rows_said, open_refusal, table_refusal}
-use Rattle.opening.specs.Words.{layout_of, HasOneWidth, NeedsIndex, entries_of, WholeRows, RowsSaid, rows_in, FixedRight, HeadRight, StartsRight, EndsRight}
+use Rattle.header.specs.Layouts.{layout_of}
+use Rattle.opening.specs.Words.{HasOneWidth, NeedsIndex, entries_of, WholeRows, RowsSaid, rows_in, FixedRight, HeadRight, StartsRight, EndsRight}
 use Rattle.opening.specs.Words.{Test, header_accepted, index_there, rows_few, whole_rows, index_head, entries, last_end, rank, Holds, FailsAt, RefusedWith}
 use Rattle.opening.proofs.OpeningLaws.{end_first, end_entry}
 use Rattle.opening.proofs.RowWidth.{OneWidth, says_one_width, has_one_width, needs_index_lem}

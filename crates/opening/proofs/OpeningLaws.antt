@@ -7,30 +7,32 @@ use native.Mathlib.Omega.{arith}
 use native.Mathlib.Numerals.{add-one}
 use lib.Dec.{eqb, ltb}
 use lib.ListN.{length}
-use borrow.Author.Tests.{eqb-true, eqb-false, eq-eqb, ne_eqb, lt-ltb, le-ltb}
+use borrow.Author.Tests.{eq-eqb, ne_eqb, lt-ltb, le-ltb}
 use Rattle.laws.proofs.LowestLaws.{bool_cases}
 use Rattle.laws.proofs.TestLaws.{clash}
 use Rattle.refusal.specs.declared.Refusal.{Refusal}
-use Rattle.laws.specs.Lowest.{lowest}
-use Rattle.refusal.specs.Order.{refusal, fine, refused_if, located, first, first_of}
-use Rattle.refusal.proofs.OrderLaws.{first_passes, first-refuses, first_within, goes_on, located-zero, located-at, located_passes}
+use Rattle.laws.specs.Lowest.{lowest, found}
+use Rattle.refusal.specs.Order.{Answer, refusal, fine, answered, refused_at, refused_if, located, first, first_of}
+use Rattle.refusal.proofs.OrderLaws.{first_passes, first-refuses, both, first_within, goes_on, located-zero, located-at, located_passes}
 use Rattle.number.specs.declared.Order.{Order}
 use Rattle.number.specs.Bytes.{number}
 use Rattle.number.proofs.NumberLaws.{number_outside}
 use Rattle.header.specs.declared.Layout.{Layout}
+use Rattle.std.specs.Prelude.{Ok, Err, Option}
 use Rattle.header.specs.declared.Header.{Header}
-use Rattle.header.specs.declared.Names.{Names}
-use Rattle.header.specs.declared.Answer.TheVariants.{Accepted, Refused}
-use Rattle.header.specs.Judge.{answered, header_refusal}
-use Rattle.header.specs.Names.{no_names, column_among}
-use Rattle.header.specs.Layouts.{header_of}
+use Rattle.header.specs.Judge.{header_refusal}
+use Rattle.header.specs.Layouts.{layout_of, handed_on, header_of}
+use Rattle.header.proofs.JudgeLaws.{given}
+use Rattle.header.proofs.AcceptedExactly.{accepted_number}
+use Rattle.header.proofs.RefusedExactly.{refused-number}
+use Rattle.header.specs.Names.{column_among}
 use Rattle.header.specs.Steps.{column_of}
-use Rattle.header.proofs.HeaderLaws.{among_names}
-use Rattle.opening.specs.declared.Table.{Table}
+use Rattle.header.proofs.HeaderLaws.{among_names, given_header}
+use Rattle.refusal.proofs.AnswerLaws.{ok-fine, err-is, err-refuses}
 use Rattle.opening.specs.declared.Opened.{Opened}
 use Rattle.limits.specs.Limits.{most_rows}
 use Rattle.opening.specs.Opening.{needs_index, entries_said, offset_at, length_at, entry_end, end_at, entry_wrong, head_wrong, index_refusal}
-use Rattle.opening.specs.Opening.{fixed_refusal, rows_said, body_refusal, open_refusal, table_refusal, table_from, no_table, opened_as, opened_of}
+use Rattle.opening.specs.Opening.{fixed_refusal, rows_said, body_refusal, open_refusal, table_refusal, opened, opened_of}
 
 -- ---- where a row ends by its entry: an entry past the index says 0
 module _ (o : Order) (index : List ℕ) (first : ℕ) where
@@ -103,6 +105,24 @@ module _ (l : Layout) (index : List ℕ) (size : ℕ) where
     unfolding first
     index-fine z u = sym (passes_entries z ∙ rw (eq-eqb (end_at l index n) size u))
 
+-- what the test of the entries answers: nothing where w is 0, else 8 at w
+pub entries_pass : (w : ℕ) (o : Option ℕ) → o ≡ found w → refused_at 8 o ≡ Ok tt → w ≡ 0
+entries_pass zero o e p = refl
+entries_pass (suc w) o e p = absurd (clash (other (rw e at p)))
+  where
+    other : ◌≡◌ {A = Answer} (Err (refusal 8 (suc w))) (Ok tt) → ◌≡◌ {A = ℕ} 0 1
+    other e = cc
+
+pub entry_refused : (l : Layout) (index : List ℕ) (size : ℕ) → head_wrong l index ≡ false → (n w : ℕ) → n ≡ entries_said l index
+    → w ≡ lowest (entry_wrong l index) n → (o : Option ℕ) → o ≡ found w → (q : Refusal) → refused_at 8 o ≡ Err q
+    → Err q ≡ answered (index_refusal l index size)
+entry_refused l index size h n zero e f o g q r = absurd (clash (other (rw g at r)))
+  where
+    other : ◌≡◌ {A = Answer} (Ok tt) (Err q) → ◌≡◌ {A = ℕ} 0 1
+    other e = cc
+entry_refused l index size h n (suc w) e f o g q r =
+    rw (← index_entry l index size h n (suc w) e f (λ z. omega (arith, z))) (sym (rw g at r))
+
 -- ---- the tests after the header's own, one after the other
 test_ends : (b : Bool) (n p : ℕ) → (n ≡ 0 → ⊥) → first_of (refused_if b n p ∷ []) ≡ refused_if b n p
 test_ends true n p h = first-refuses (refusal n p) fine h
@@ -154,60 +174,51 @@ module _ (l : Layout) (index : List ℕ) (size most : ℕ) where
       first_within
       (refused_if lacks 8 0 ∷ refused_if (ltb (min most most_rows) (rows_said l index size)) 15 0 ∷ body_refusal l index size ∷ [])
 
--- ---- the answer of a header
-pub answered_accepted : (q : Refusal) → answered q ≡ Accepted → q.number ≡ 0
-answered_accepted q e =
-    bool_cases (eqb q.number 0) (eqb-true q.number 0) (λ t. clash (other (rw t at e)))
-  where
-    other : Refused q ≡ Accepted → ◌≡◌ {A = ℕ} 0 1
-    other e = cc
+-- ---- an opening: the header first, then the tests after it, and the table where nothing is refused
+module _ (file index : List ℕ) (most : ℕ) where
+  -- the header's refusal
+  pub header_refused : (q : Refusal) → header_of file ≡ Err q → opened_of file index most ≡ Err q
+  unfolding header_of opened_of table_refusal
+  header_refused q e =
+      let r = (refused-number (header_refusal file) q (handed_on file)).0 e in
+      (refused-number (table_refusal file index most) q (opened file index)).1 (
+        first-refuses (header_refusal file) (first (open_refusal (layout_of file) index (length file) most) fine) (λ z. r.1 (ap (λ (r : Refusal). r.number) (sym r.0) ∙ z))
+            ∙ r.0,
+        r.1,
+      )
 
-pub answered_refused : (q r : Refusal) → answered q ≡ Refused r → (q ≡ r) × (q.number ≡ 0 → ⊥)
-answered_refused q r e =
-    bool_cases (eqb q.number 0) (λ t. clash (other (rw t at e))) (λ t. (same (rw t at e), eqb-false q.number 0 t))
-  where
-    other : Accepted ≡ Refused r → ◌≡◌ {A = ℕ} 0 1
-    other e = cc
+  module _ (h : Header) (e : header_of file ≡ Ok h) where
+    after_header : table_refusal file index most ≡ open_refusal h.layout index (length file) most
+    unfolding table_refusal
+    after_header =
+        let g = given_header file h e in
+        first_passes (header_refusal file) (first (open_refusal (layout_of file) index (length file) most) fine) g.0
+        ∙ open_ends (layout_of file) index (length file) most
+        ∙ ap (λ (x : Header). open_refusal x.layout index (length file) most) (sym g.1)
 
-    same : Refused q ≡ Refused r → q ≡ r
-    same e = cc
+    pub table_refused : (q : Refusal) → answered (open_refusal h.layout index (length file) most) ≡ Err q → opened_of file index most ≡ Err q
+    unfolding opened_of
+    table_refused q a =
+        let r = err-is (open_refusal h.layout index (length file) most) q a in
+        (refused-number (table_refusal file index most) q (opened file index)).1 (
+          after_header ∙ r,
+          λ z. err-refuses (open_refusal h.layout index (length file) most) q a (ap (λ (r : Refusal). r.number) r ∙ z),
+        )
 
--- ---- what is opened: nothing on a refusal, else the table and its names
-module _ (q : Refusal) (t : Table) (names : Names) where
-  pub opened_refused : (q.number ≡ 0 → ⊥) → record { answer = Refused q; table = no_table; names = no_names } ≡ opened_as q t names
-  opened_refused h = rw (ne_eqb q.number 0 h)
-
-  pub opened_accepted : q.number ≡ 0 → record { answer = Accepted; table = t; names = names } ≡ opened_as q t names
-  opened_accepted h = rw (eq-eqb q.number 0 h)
-
-module _ (file index : List ℕ) (most : ℕ) (h : Header) (e : h ≡ header_of file) where
-  answer_is : h.answer ≡ answered (header_refusal file)
-  unfolding header_of
-  answer_is = ap (λ (h : Header). h.answer) e
-
-  pub header_refused : (q : Refusal) → h.answer ≡ Refused q
-      → record { answer = Refused q; table = no_table; names = no_names } ≡ opened_of file index most
-  unfolding opened_of table_refusal
-  header_refused q f =
-      let a = answered_refused (header_refusal file) q (sym answer_is ∙ f) in
-      rw (first-refuses (header_refusal file) (first (open_refusal (header_of file).layout index (length file) most) fine) a.1)
-      (rw a.0
-      (opened_refused q (table_from (header_of file).layout index (length file)) (header_of file).names
-      (λ z. a.1 (ap (λ (q : Refusal). q.number) a.0 ∙ z))))
-
-  pub header_accepted : (r : Opened) → h.answer ≡ Accepted
-      → r ≡ opened_as (open_refusal h.layout index (length file) most) (table_from h.layout index (length file)) h.names
-      → r ≡ opened_of file index most
-  unfolding opened_of table_refusal
-  header_accepted r f g =
-      let z = answered_accepted (header_refusal file) (sym answer_is ∙ f) in
-      let q = open_refusal (header_of file).layout index (length file) most in
-      let o : Header → Opened = λ h. opened_as (open_refusal h.layout index (length file) most)
-      (table_from h.layout index (length file)) h.names in
-      rw (first_passes (header_refusal file) (first q fine) z, open_ends (header_of file).layout index (length file) most) (g ∙ ap o e)
+    pub table_opened : (rows : ℕ) → rows ≡ rows_said h.layout index (length file) → answered (open_refusal h.layout index (length file) most) ≡ Ok tt
+        → opened_of file index most ≡ Ok (record { table = record { layout = h.layout; rows = rows }; names = h.names })
+    unfolding opened_of
+    table_opened rows m a =
+        let z = ap (λ (r : Refusal). r.number) after_header ∙ ok-fine (open_refusal h.layout index (length file) most) a in
+        let g = given_header file h e in
+        rw m ((accepted_number (table_refusal file index most) (opened file index)).1 z
+        ∙ ap (λ (x : Header). Ok (record { table = record { layout = x.layout; rows = rows_said x.layout index (length file) }; names = x.names })) (sym g.1))
 
 -- THE COLUMN OF A NAME, found among the names that an opened table gives on
-pub opened_column : (file index : List ℕ) (most : ℕ) → (table_refusal file index most).number ≡ 0 → (name : List ℕ)
-    → column_among file (opened_of file index most).names (opened_of file index most).table.layout.columns name ≡ column_of file name
-unfolding opened_of
-opened_column file index most z name = rw (eq-eqb (table_refusal file index most).number 0 z) (among_names file name)
+pub opened_column : (file index : List ℕ) (most : ℕ) (o : Opened) → opened_of file index most ≡ Ok o → (name : List ℕ)
+    → column_among file o.names o.table.layout.columns name ≡ column_of file name
+unfolding opened_of table_refusal header_of
+opened_column file index most o e name =
+    let g = given (table_refusal file index most) (opened file index) o e in
+    let z = (both (header_refusal file) (first (open_refusal (layout_of file) index (length file) most) fine) g.0).0 in
+    rw g.1 (among_names file name (handed_on file) ((accepted_number (header_refusal file) (handed_on file)).1 z))

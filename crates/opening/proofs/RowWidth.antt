@@ -16,7 +16,8 @@ use Rattle.field.proofs.TableRule.{letter_of_type}
 use Rattle.header.specs.Words.{column_at, AcceptedHeader}
 use Rattle.header.specs.LayoutWords.{Varies, layout_at, LaidOut}
 use Rattle.header.proofs.LayoutMeans.{laid_out_lem}
-use Rattle.opening.specs.Words.{layout_of, NoneVaries, SomeVaries, HasOneWidth, NeedsIndex}
+use Rattle.header.specs.Layouts.{layout_of}
+use Rattle.opening.specs.Words.{NoneVaries, SomeVaries, HasOneWidth, NeedsIndex}
 
 -- what the layout says: one width of all rows, or 0
 abbrev pub OneWidth : List ℕ → Type 0

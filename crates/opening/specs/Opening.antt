@@ -1,16 +1,14 @@
 -- "Rows and index": when a table opens with its lent index. "then 8 at 0 for a needed index under 8 bytes, 15 (rows, whole ones in a
 -- fixed body, n in an index), 7 or 8."
-use Rattle.std.specs.Prelude.{Bool, true, false, cond, not, List, [], ◌∷◌, ℕ, zero, suc, pred, min, ◌+◌, ◌-◌, ◌*◌, ◌/◌, ◌%◌, eqb, ltb, length}
+use Rattle.std.specs.Prelude.{Result, Bool, true, false, cond, not, List, [], ◌∷◌, ℕ, zero, suc, pred, min, ◌+◌, ◌-◌, ◌*◌, ◌/◌, ◌%◌, eqb, ltb, length}
 use Rattle.laws.specs.Lowest.{lowest}
 use Rattle.refusal.specs.declared.Refusal.{Refusal}
-use Rattle.refusal.specs.Order.{refused_if, located, first_of}
+use Rattle.refusal.specs.Order.{refused_if, located, first_of, unless}
 use Rattle.number.specs.declared.Order.{Order}
 use Rattle.number.specs.Bytes.{number}
 use Rattle.header.specs.declared.Layout.{Layout}
-use Rattle.header.specs.declared.Names.{Names}
-use Rattle.header.specs.Names.{no_names}
-use Rattle.header.specs.Judge.{header_refusal, answered}
-use Rattle.header.specs.Layouts.{header_of, blank_layout}
+use Rattle.header.specs.Judge.{header_refusal}
+use Rattle.header.specs.Layouts.{layout_of, handed_on}
 use Rattle.limits.specs.Limits.{most_rows}
 use Rattle.opening.specs.declared.Table.{Table}
 use Rattle.opening.specs.declared.Opened.{Opened}
@@ -92,27 +90,19 @@ open_refusal l index size most =
 
 -- THE OPENING'S JUDGEMENT
 unfoldable pub table_refusal : List ℕ → List ℕ → ℕ → Refusal
-table_refusal file index most = first_of (header_refusal file ∷ open_refusal (header_of file).layout index (length file) most ∷ [])
-
-abbrev pub no_table : Table
-no_table = record { layout = blank_layout; rows = 0 }
+table_refusal file index most = first_of (header_refusal file ∷ open_refusal (layout_of file) index (length file) most ∷ [])
 
 -- a table whose rows this layout describes
 abbrev pub table_from : Layout → List ℕ → ℕ → Table
 table_from l index size = record { layout = l; rows = rows_said l index size }
 
 abbrev pub table_of : List ℕ → List ℕ → Table
-table_of file index = table_from (header_of file).layout index (length file)
+table_of file index = table_from (layout_of file) index (length file)
 
--- the answer, with the table and its names where nothing is refused
-abbrev pub opened_as : Refusal → Table → Names → Opened
-opened_as q t names =
-    record {
-      answer = answered q;
-      table = cond (eqb q.number 0) t no_table;
-      names = cond (eqb q.number 0) names no_names;
-    }
+-- what an opening hands on: the table, and where the names of its columns lie
+abbrev pub opened : List ℕ → List ℕ → Opened
+opened file index = record { table = table_of file index; names = (handed_on file).names }
 
--- THE OPENING
-unfoldable pub opened_of : List ℕ → List ℕ → ℕ → Opened
-opened_of file index most = opened_as (table_refusal file index most) (table_of file index) (header_of file).names
+-- THE OPENING: that, or the refusal
+unfoldable pub opened_of : List ℕ → List ℕ → ℕ → Result Opened Refusal
+opened_of file index most = unless (table_refusal file index most) (opened file index)

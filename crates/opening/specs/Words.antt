@@ -3,7 +3,7 @@ use Rattle.std.specs.Prelude.{◌≡◌, ◌⊎◌, List, [], ℕ, suc, ◌+◌,
 use Rattle.laws.specs.Lowest.{In, Each, LowestFailing}
 use Rattle.grammar.specs.Words.{Reading}
 use Rattle.header.specs.declared.Layout.{Layout}
-use Rattle.header.specs.Layouts.{header_of}
+use Rattle.header.specs.Layouts.{layout_of}
 use Rattle.header.specs.Words.{column_at, AcceptedHeader}
 use Rattle.header.specs.LayoutWords.{Varies}
 use Rattle.header.specs.Refusals as header
@@ -11,10 +11,6 @@ use Rattle.limits.specs.Limits.{most_rows}
 use Rattle.opening.specs.Opening.{entries_said, header_size, offset_at, length_at, rows_said}
 
 -- ---- when a table opens
-
--- what the rows take from the file's header: its `start` is L + 4
-abbrev pub layout_of : List ℕ → Layout
-layout_of file = (header_of file).layout
 
 -- "Without a `*` or K column all rows have one width"; "Otherwise an index is needed"
 abbrev pub NoneVaries : Reading → Type 0

@@ -14,9 +14,8 @@ use Rattle.laws.proofs.LowestLaws.{some_or_none}
 use Rattle.refusal.specs.Order.{refusal}
 use Rattle.grammar.specs.Words.{Reading, printed_mark}
 use Rattle.header.specs.declared.Definition.{Definition}
-use Rattle.header.specs.declared.Step.{Step}
-use Rattle.header.specs.declared.Step.TheVariants.{Column, Done, Refused}
-use Rattle.header.specs.Steps.{place_of, start_of}
+use Rattle.std.specs.Prelude.{Some, None, Ok, Err}
+use Rattle.header.specs.Steps.{Step, place_of, start_of}
 use Rattle.header.specs.Words.{column_at, AcceptedHeader}
 use Rattle.header.specs.Refusals.{RefusedWith}
 use Rattle.header.proofs.StepsInOrder.{stepped, refused_everywhere, start-place, place_after_steps, steps_give_columns, steps_move_past, steps_end, step_elsewhere}
@@ -33,20 +32,20 @@ steps_of_place file (suc k) place = ap moved (steps_of_place file k place)
 stays : (r : Reader) (s : Step) → gives r ≡ s → place_of r.at s ≡ r.at → moved r ≡ r
 stays r s e p = ap (reader_at r.file) (ap (place_of r.at) e ∙ p)
 
-says_done : (r : Reader) → gives r ≡ Done → SaysDone r
-says_done r e = record { given = e; stays = stays r Done e refl }
+says_done : (r : Reader) → gives r ≡ Ok None → SaysDone r
+says_done r e = record { given = e; stays = stays r (Ok None) e refl }
 
-refuses : (r : Reader) (n p : ℕ) → gives r ≡ Refused (refusal n p) → Refuses r n p
-refuses r n p e = record { given = e; stays = stays r (Refused (refusal n p)) e refl }
+refuses : (r : Reader) (n p : ℕ) → gives r ≡ Err (refusal n p) → Refuses r n p
+refuses r n p e = record { given = e; stays = stays r (Err (refusal n p)) e refl }
 
 -- "A HEADER REFUSAL COMES FIRST", wherever the reader stands
 pub refused-first : (file : Bor (List ℕ)) (n p : ℕ) → RefusedWith file.now n p → (place : ℕ) → Refuses (reader_at file place) n p
 refused-first file n p w place = refuses (reader_at file place) n p (refused_everywhere file.now n p w place)
 
 abbrev is_column : Step → Bool
-is_column (Column d) = true
-is_column Done = false
-is_column (Refused q) = false
+is_column (Ok (Some d)) = true
+is_column (Ok None) = false
+is_column (Err q) = false
 
 module _ (file : Bor (List ℕ)) (h : Reading) (a : AcceptedHeader file.now h) where
   abbrev columns : ℕ
@@ -83,7 +82,7 @@ module _ (file : Bor (List ℕ)) (h : Reading) (a : AcceptedHeader file.now h) w
       none k l (ap (reader_at file) (e ∙ sym (place_after_steps file.now h a k l)) ∙ after_steps k)))
 
   -- EXACTLY ONE DEFINITION, at whatever place a reader stands: one that gives a column is where a new reader comes to, and does the same
-  pub one_definition : (place : ℕ) (d : Definition) → gives (reader_at file place) ≡ Column d
+  pub one_definition : (place : ℕ) (d : Definition) → gives (reader_at file place) ≡ Ok (Some d)
       → (k : ℕ) × (k < columns) × (reader_at file place ≡ steps k (opened file)) × GivesColumn (reader_at file place) (column_at h (suc k))
   one_definition place d e =
       ⊎_elim
@@ -92,9 +91,9 @@ module _ (file : Bor (List ℕ)) (h : Reading) (a : AcceptedHeader file.now h) w
       let q : reader_at file place ≡ steps k (opened file) = ap (reader_at file) w.2 ∙ after_steps k in
       by_cases (dec_lt k columns)
       (λ l. (k, l, q, subst (λ (r : Reader). GivesColumn r (column_at h (suc k))) (sym q) (columns_in_order k l)))
-      (λ l. no_column Done refl (ap gives q ∙ (then_done k (omega arith)).given)))
+      (λ l. no_column (Ok None) refl (ap gives q ∙ (then_done k (omega arith)).given)))
       (λ none.
-      no_column (Refused (refusal 13 place)) refl
+      no_column (Err (refusal 13 place)) refl
       (elsewhere place (λ k l q. none (suc k) (omega arith, omega arith) (ap (λ (r : Reader). r.at) (q ∙ sym (after_steps k))))).given)
       (some_or_none (λ k. place ≡ place_after (pred k)) (suc columns) (λ k i. by_cases (ℕ_discrete place (place_after (pred k))) inl inr))
     where

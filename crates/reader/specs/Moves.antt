@@ -2,8 +2,7 @@
 -- comes first. After the last it says so and stays; a place where the header's reading starts no definition gives 13, that place, and stays."
 use Rattle.std.specs.Prelude.{ℕ, zero, suc, List}
 use Rattle.std.specs.Borrow.{Bor}
-use Rattle.header.specs.declared.Step.{Step}
-use Rattle.header.specs.Steps.{step_of, place_of, start_of}
+use Rattle.header.specs.Steps.{Step, step_of, place_of, start_of}
 use Rattle.reader.specs.declared.Reader.{Reader}
 use Rattle.reader.specs.declared.Moved.{Moved}
 

@@ -6,7 +6,8 @@ ghost use Rattle.std.specs.Prelude.{◌≡◌};
 ghost use Rattle.header.specs.Steps.{place_of};
 ghost use Rattle.reader.specs.Moves.{reader_at, opened, gives, moved, moved_from};
 
-use header::Step;
+use header::Definition;
+use refusal::Refusal;
 
 // The file, and the place at which the next step looks. A place that anybody puts there has a meaning: what `column_step` says of it.
 #[derive(Clone, Copy)]
@@ -18,18 +19,18 @@ pub struct Reader<'a> {
 // What a step gave, and where the reader stands after it.
 #[derive(Clone, Copy)]
 pub struct Moved {
-    pub step: Step,
+    pub step: Result<Option<Definition>, Refusal>,
     pub at: usize,
 }
 
 // Where a reader goes after a step: past the definition, or it stays.
-fn place_after(step: Step, place: usize) -> usize
+fn place_after(step: Result<Option<Definition>, Refusal>, place: usize) -> usize
     ensures { result ≡ place_of place step }
 {
     match step {
-        Step::Column(d) => d.after,
-        Step::Done => place,
-        Step::Refused(_) => place,
+        Ok(Some(d)) => d.after,
+        Ok(None) => place,
+        Err(_) => place,
     }
 }
 
@@ -59,7 +60,7 @@ pub fn open<'a>(file: &'a [u8]) -> Reader<'a>
 
 impl<'a> Reader<'a> {
     // Gives the column at the reader's place and moves past its definition; or gives the end or the refusal, and stays.
-    pub fn step(&mut self) -> Step
+    pub fn step(&mut self) -> Result<Option<Definition>, Refusal>
         ensures { (result ≡ gives self.old) × (self.new ≡ moved self.old) }
     {
         let moved = step_at(self.file, self.at);

@@ -7,11 +7,15 @@
 ghost use Rattle.std.specs.Prelude.{◌≡◌};
 ghost use Rattle.reader_cases.specs.Trails.{trail_of};
 
-use casefile::{FILE_ROOM, say, say_number, say_part, say_refusal};
-use header::Step;
+use casefile::{FILE_ROOM, Fields, say, say_part};
+use header::Definition;
 use number::Order;
+use refusal::Refusal;
 use std::io;
 use std::io::{BufWriter, Write};
+
+// What a step gives: the column, the end, or the refusal.
+type Step = Result<Option<Definition>, Refusal>;
 
 // What two steps of one reader gave, and where it stands after them.
 #[derive(Clone, Copy)]
@@ -38,38 +42,29 @@ fn two_steps(file: &[u8]) -> Trail
 // The name of the column that a step gave, the end, or the refusal.
 fn say_given(out: &mut impl Write, file: &[u8], step: Step) -> io::Result<()> {
     match step {
-        Step::Column(d) => say_part(out, file, d.name.start, d.name.end),
-        Step::Done => say(out, b"done"),
-        Step::Refused(bad) => say_refusal(out, bad),
+        Ok(Some(d)) => say_part(out, file, d.name.start, d.name.end),
+        Ok(None) => say(out, b"done"),
+        Err(bad) => write!(out, "refused {bad}"),
     }
 }
 
 // Says a step of a reader at a place, and answers where the reader stands after it.
 fn say_step(out: &mut impl Write, file: &[u8], place: usize) -> io::Result<usize> {
     let moved = reader::step_from(file, place);
-    let step = moved.step;
-    say(out, b"  at ")?;
-    say_number(out, place as u64)?;
-    say(out, b" ")?;
-    say_given(out, file, step)?;
-    say(out, b", then at ")?;
-    say_number(out, moved.at as u64)?;
-    say(out, b"\n")?;
+    write!(out, "  at {place} ")?;
+    say_given(out, file, moved.step)?;
+    writeln!(out, ", then at {}", moved.at)?;
     Ok(moved.at)
 }
 
 // Says two steps of one reader, and answers where it stands after them.
 fn say_held(out: &mut impl Write, file: &[u8]) -> io::Result<usize> {
     let trail = two_steps(file);
-    let first = trail.first;
-    let second = trail.second;
     say(out, b"  held: ")?;
-    say_given(out, file, first)?;
+    say_given(out, file, trail.first)?;
     say(out, b", ")?;
-    say_given(out, file, second)?;
-    say(out, b", then at ")?;
-    say_number(out, trail.at as u64)?;
-    say(out, b"\n")?;
+    say_given(out, file, trail.second)?;
+    writeln!(out, ", then at {}", trail.at)?;
     Ok(trail.at)
 }
 
@@ -84,30 +79,21 @@ fn say_steps(out: &mut impl Write, file: &[u8], first: usize, count: usize) -> i
 
 fn run_case(out: &mut impl Write, case: &[u8]) -> io::Result<()> {
     let file = casefile::part(case, 1);
-    let count = number::read2(casefile::part(case, 2), 0, Order::Least) as usize;
-    let place = number::read8(casefile::part(case, 3), 0, Order::Least) as usize;
+    let count = number::read::<u16>(casefile::part(case, 2), 0, Order::Least) as usize;
+    let place = number::read::<u64>(casefile::part(case, 3), 0, Order::Least) as usize;
     say(out, casefile::part(case, 0))?;
-    say(out, b": a new reader at ")?;
-    say_number(out, header::first_place(file) as u64)?;
-    say(out, b"\n")?;
+    writeln!(out, ": a new reader at {}", header::first_place(file))?;
     let held = say_held(out, file)?;
     say_steps(out, file, held, count)?;
     say_steps(out, file, place, 2)
-}
-
-fn run(out: &mut impl Write, file: &[u8]) -> io::Result<()> {
-    let mut at = 0;
-    while at < file.len() {
-        run_case(out, casefile::field(file, at))?;
-        at = casefile::after(file, at);
-    }
-    Ok(())
 }
 
 fn main(rt: HostRuntime) -> io::Result<()> {
     let mut buf = [0u8; FILE_ROOM];
     let n = casefile::load(&rt, b"cases", &mut buf);
     let mut out = BufWriter::new(rt.alloc(), io::writer(&rt))?;
-    run(&mut out, &buf[..n])?;
+    for case in Fields::new(&buf[..n]) {
+        run_case(&mut out, case)?;
+    }
     out.flush()
 }

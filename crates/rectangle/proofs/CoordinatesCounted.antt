@@ -1,6 +1,6 @@
 -- THE COORDINATES OF A RECTANGLE ARE ALL THAT THE FIELD HAS: in a right row of an opened table they are as many as the `*` field's count
 -- says, or the column's, so that no coordinate is left out and nothing else is read as one.
-use mathlib.Core.Path.{◌≡◌, refl, sym, ap, subst, ◌∙◌}
+use mathlib.Core.Path.{◌≡◌, refl, ap, subst, ◌∙◌}
 use mathlib.Core.List.{List}
 use Prim.Native.Nat.{ℕ, ◌*◌, ◌≤◌}
 use native.Mathlib.Omega.{arith}
@@ -17,10 +17,10 @@ use Rattle.bounds.specs.declared.Parts.TheVariants.{Two, Three}
 use Rattle.bounds.specs.Bounds.{part_count, part_bytes, count}
 use Rattle.bounds.proofs.ReadLaws.{count_exact}
 use Rattle.header.specs.declared.ColumnLayout.{ColumnLayout}
-use Rattle.table.specs.declared.Value.{Value}
+use Rattle.std.specs.Prelude.{Ok}
 use Rattle.table.specs.declared.Value.TheVariants as value
 use Rattle.table.specs.Rows.{column_at, column_place}
-use Rattle.table.specs.Values.{elements_start, elements_bytes, shown, value_of, part_of}
+use Rattle.table.specs.Values.{ValueRead, part_at, elements, elements_start, elements_bytes, shown, value_of, part_of}
 use Rattle.opening.specs.Words.{Opens}
 use Rattle.table.specs.Words.{RowRight, PartInside}
 use Rattle.table.proofs.RowExactly.{inside-file}
@@ -36,7 +36,7 @@ width_with binary64 Two = refl
 width_with binary64 Three = refl
 
 coordinates_shown : (f : Format) (p : Parts) (o : Order) (s : List ℕ) (c : ColumnLayout) (at end : ℕ) → c.kind ≡ type_with f p
-    → shown o s c at end ≡ value.Coordinates (elements_start c at end) (elements_bytes o s c at)
+    → shown o s c at end ≡ Ok (value.Coordinates (elements o s c at end))
 unfolding shown
 coordinates_shown binary32 Two o s c at end e = rw e
 coordinates_shown binary32 Three o s c at end e = rw e
@@ -44,8 +44,8 @@ coordinates_shown binary64 Two o s c at end e = rw e
 coordinates_shown binary64 Three o s c at end e = rw e
 
 -- a part that lies inside what is lent has all its bytes
-part_length : (s : List ℕ) (start end p n : ℕ) → end ≤ length s → PartInside start end (value.Coordinates p n)
-    → length (part_of s (value.Coordinates p n)) ≡ n
+part_length : (s : List ℕ) (start end p n : ℕ) → end ≤ length s → PartInside start end (Ok (value.Coordinates (part_at p n)))
+    → length (part_of s (Ok (value.Coordinates (part_at p n)))) ≡ n
 unfolding part_of
 part_length s start end p n a b = length-take n (drop p s) ∙ omega (arith, length-drop p s, b.0, b.1)
 
@@ -63,8 +63,7 @@ module _ (file index : List ℕ) (most : ℕ) (h : Reading) (n : ℕ) (o : Opens
     abbrev whole : end ≤ length file
     whole = inside-file file index most h n o i r
 
-    value_is : value_of file index opened i k ≡ value.Coordinates (elements_start (column_at l k) at end)
-        (elements_bytes l.order file (column_at l k) at)
+    value_is : value_of file index opened i k ≡ Ok (value.Coordinates (elements l.order file (column_at l k) at end))
     value_is =
         value_of_row file index most h n o i r right k c file (record { in_first = whole; in_second = whole; same = refl })
         ∙ coordinates_shown f p l.order file (column_at l k) at end e
@@ -80,7 +79,7 @@ module _ (file index : List ℕ) (most : ℕ) (h : Reading) (n : ℕ) (o : Opens
         let m = elements_bytes l.order file (column_at l k) at in
         let inside = subst (PartInside start end) value_is (value_inside file index most h n o i r right k c) in
         count_exact f p l.order (part_of file (value_of file index opened i k)) said
-        (ap (λ (x : Value). length (part_of file x)) value_is
+        (ap (λ (x : ValueRead). length (part_of file x)) value_is
         ∙ part_length file start end v m whole inside
         ∙ bytes_are
         ∙ ap (λ (x : FieldType). said * width_of x) e

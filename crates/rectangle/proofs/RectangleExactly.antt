@@ -16,16 +16,14 @@ use Rattle.number.specs.declared.Order.{Order}
 use Rattle.field.specs.declared.FieldType.{FieldType}
 use Rattle.bounds.specs.declared.Parts.{Parts}
 use Rattle.bounds.specs.declared.Parts.TheVariants.{Two, Three}
-use Rattle.bounds.specs.Bounds.{Rectangle, Bounds, within, refused, Coordinates, coordinates, count, unfit, not_finite_or_none, bounds_of}
+use Rattle.bounds.specs.Bounds.{Rectangle, Bounds, Coordinates, coordinates, count, unfit, not_finite_or_none, bounds_of}
 use Rattle.bounds.proofs.BoundsExactly as exactly
 use Rattle.header.specs.declared.ColumnLayout.{ColumnLayout}
 use Rattle.header.specs.declared.Layout.{Layout}
 use Rattle.opening.specs.declared.Table.{Table}
-use Rattle.table.specs.declared.Row.{Row}
-use Rattle.table.specs.declared.Row.TheVariants as row
-use Rattle.table.specs.declared.Value.{Value}
-use Rattle.table.specs.Rows.{rows_of, columns_of, no_such_row, no_such_column, column_at, row_of}
-use Rattle.table.specs.Values.{in_row as row_value, field_in, part_of}
+use Rattle.std.specs.Prelude.{Ok, Err}
+use Rattle.table.specs.Rows.{Row, between, rows_of, columns_of, no_such_row, no_such_column, column_at, row_of}
+use Rattle.table.specs.Values.{ValueRead, in_row as row_value, field_in, part_of}
 use Rattle.table.specs.Words.{RowThere, ColumnThere, NoRow}
 use Rattle.table.proofs.RowExactly.{there}
 use Rattle.table.proofs.RowLaws.{such}
@@ -43,11 +41,11 @@ abbrev bounded : Format → Bounds → Answer
 bounded binary32 b = in_short b
 bounded binary64 b = in_double b
 
-bounded-within : (f : Format) (r : Rectangle) → bounded f (within r) ≡ in_width f r
+bounded-within : (f : Format) (r : Rectangle) → bounded f (Ok r) ≡ in_width f r
 bounded-within binary32 r = refl
 bounded-within binary64 r = refl
 
-bounded-refused : (f : Format) (q : Refusal) → bounded f (refused q) ≡ refused_with q
+bounded-refused : (f : Format) (q : Refusal) → bounded f (Err q) ≡ refused_with q
 bounded-refused binary32 q = refl
 bounded-refused binary64 q = refl
 
@@ -59,14 +57,14 @@ by_width binary64 Two o s k = refl
 by_width binary64 Three o s k = refl
 
 -- what refused bounds say
-bounds-refused : (c : Coordinates) (q : Refusal) → bounds_of c ≡ refused q
+bounds-refused : (c : Coordinates) (q : Refusal) → bounds_of c ≡ Err q
     → (q.number ≡ not_finite_or_none) × (((count c ≡ 0) × (q.place ≡ 0)) ⊎ At (unfit c) (count c) q.place)
 bounds-refused c q e =
     let n = exactly.refused-number c q e in
-    let u : bounds_of c ≡ refused (refusal not_finite_or_none q.place) = e ∙ ap (λ (n : ℕ). refused (refusal n q.place)) n in (
+    let u : bounds_of c ≡ Err (refusal not_finite_or_none q.place) = e ∙ ap (λ (n : ℕ). Err (refusal n q.place)) n in (
       n,
       ⊎_elim
-          (λ z. inl ((exactly.none_exactly c).0 (u ∙ ap (λ (p : ℕ). refused (refusal not_finite_or_none p)) z), z))
+          (λ z. inl ((exactly.none_exactly c).0 (u ∙ ap (λ (p : ℕ). Err (refusal not_finite_or_none p)) z), z))
           (λ p. inr ((exactly.refused-exactly c q.place p).0 u))
           (eq-zero-or-pos q.place),
     )
@@ -106,17 +104,17 @@ module _ (file index : List ℕ) (t : Table) (i k : ℕ) where
       unfolding rectangle_of
       answered_at_row = let c : is_coordinates column.kind ≡ true = ap is_coordinates h ∙ coordinates_are f p in rw (a, b, c)
 
-      at_bad : (q : Refusal) → row_of file index t i ≡ row.Refused q → answered ≡ refused_with q
+      at_bad : (q : Refusal) → row_of file index t i ≡ Err q → answered ≡ refused_with q
       at_bad q e = answered_at_row ∙ ap (λ (x : Row). in_row x found) e
 
-      at_line : (start end : ℕ) → row_of file index t i ≡ row.Between start end → answered ≡ bounded f (bounds_of (line file index t i k f p))
+      at_line : (start end : ℕ) → row_of file index t i ≡ between start end → answered ≡ bounded f (bounds_of (line file index t i k f p))
       at_line start end e =
           let v = value_in_row file index t i k (such (rows_of t) i a) (such (columns_of l) k b) in
           answered_at_row
           ∙ ap (λ (x : Row). in_row x found) e
           ∙ ap (λ (x : FieldType). by_type x l.order (coordinates_in file l k start end) k) h
           ∙ by_width f p l.order (coordinates_in file l k start end) k
-          ∙ ap (λ (v : Value). bounded f (bounds_of (coordinates f p l.order (part_of file v))))
+          ∙ ap (λ (v : ValueRead). bounded f (bounds_of (coordinates f p l.order (part_of file v))))
           (sym (v ∙ ap (λ (x : Row). row_value x (field_in file l k)) e))
 
   -- what an answer means
@@ -135,16 +133,16 @@ module _ (file index : List ℕ) (t : Table) (i k : ℕ) where
 
   module _ (a : no_such_row t i ≡ false) (b : no_such_column l k ≡ false) where
     -- an accepted row and a column of coordinates: the bounds decide
-    drawn_or_bad : (start end : ℕ) → row_of file index t i ≡ row.Between start end → (f : Format) (p : Parts) → column.kind ≡ type_with f p
+    drawn_or_bad : (start end : ℕ) → row_of file index t i ≡ between start end → (f : Format) (p : Parts) → column.kind ≡ type_with f p
         → (x : Bounds) → bounds_of (line file index t i k f p) ≡ x → Means (bounded f x)
-    drawn_or_bad start end e f p h (within r) u =
+    drawn_or_bad start end e f p h (Ok r) u =
         let w = (exactly.rectangle_exactly (line file index t i k f p) r).0 u in
         subst Means (sym (bounded-within f r))
         (means_width f r (record {
           drawn = record { row = (start, end, e); column = such (columns_of l) k b; parts = p; kind = h; accepted = w.0 };
           rectangle = w.1;
         }))
-    drawn_or_bad start end e f p h (refused q) u =
+    drawn_or_bad start end e f p h (Err q) u =
         let w = bounds-refused (line file index t i k f p) q u in
         subst Means (sym (bounded-refused f q))
         (inr (inr (inr (record {
@@ -158,9 +156,11 @@ module _ (file index : List ℕ) (t : Table) (i k : ℕ) where
         }))))
 
     by_row : (f : Format) (p : Parts) → column.kind ≡ type_with f p → (x : Row) → row_of file index t i ≡ x → Means answered
-    by_row f p h (row.Between start end) e =
+    by_row f p h (Ok lies) e =
+        let start = lies.start in
+        let end = lies.end in
         subst Means (sym (at_line a b f p h start end e)) (drawn_or_bad start end e f p h (bounds_of (line file index t i k f p)) refl)
-    by_row f p h (row.Refused q) e =
+    by_row f p h (Err q) e =
         subst Means (sym (at_bad a b f p h q e))
         (inr (inr (inl (record { row = such (rows_of t) i a; column = such (columns_of l) k b; format = f; parts = p; kind = h; refused = e }))))
 
@@ -240,7 +240,7 @@ module _ (file index : List ℕ) (t : Table) (i k : ℕ) where
           w.row.0 w.row.1 w.row.2
           ∙ ap (bounded w.format)
           (⊎_elim
-          (λ z. (exactly.none_exactly c).1 z.0 ∙ ap (λ (p : ℕ). refused (refusal not_finite_or_none p)) (sym z.1))
+          (λ z. (exactly.none_exactly c).1 z.0 ∙ ap (λ (p : ℕ). Err (refusal not_finite_or_none p)) (sym z.1))
           (λ h. (exactly.refused-exactly c p h.pos).1 h)
           w.place)
           ∙ bounded-refused w.format (refusal not_finite_or_none p)

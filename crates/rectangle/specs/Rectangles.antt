@@ -1,24 +1,20 @@
 -- The rectangle of an edge: the coordinates in column k of row i. "A column of another type than C, Z, B, Y is 13. Found for C and Z in
 -- f32, for B and Y in f64, the rectangle travels as one record of four floats."
-use Rattle.std.specs.Prelude.{Bool, true, false, cond, not, List, ℕ, eqb}
+use Rattle.std.specs.Prelude.{Bool, true, false, cond, not, List, ℕ, Result, Ok, Err}
 use Rattle.std.specs.Float.{binary32, binary64}
 use Rattle.refusal.specs.declared.Refusal.{Refusal}
-use Rattle.refusal.specs.Order.{refusal, fine}
+use Rattle.refusal.specs.Order.{refusal}
 use Rattle.number.specs.declared.Order.{Order}
 use Rattle.field.specs.declared.FieldType.{FieldType}
 use Rattle.field.specs.declared.FieldType.TheVariants as type
 use Rattle.bounds.specs.declared.Parts.TheVariants.{Two, Three}
-use Rattle.bounds.specs.Bounds.{Rectangle, Bounds, within, refused, coordinates, bounds_of, rectangle32, rectangle64}
+use Rattle.bounds.specs.Bounds.{Rectangle, Bounds, coordinates, bounds_of}
 use Rattle.header.specs.declared.Layout.{Layout}
 use Rattle.opening.specs.declared.Table.{Table}
-use Rattle.table.specs.declared.Row.{Row}
-use Rattle.table.specs.declared.Row.TheVariants as row
-use Rattle.table.specs.declared.Value.{Value}
-use Rattle.table.specs.declared.Value.TheVariants as value
-use Rattle.table.specs.Rows.{no_such_row, no_such_column, column_at, row_of}
+use Rattle.table.specs.Rows.{no_such_row, no_such_column, column_at, Row, row_of}
 use Rattle.table.specs.Values.{field_in, part_of}
 use Rattle.rectangle.specs.declared.Found.{Found}
-use Rattle.rectangle.specs.declared.Found.TheVariants.{Short, Double, Refused}
+use Rattle.rectangle.specs.declared.Found.TheVariants.{Short, Double}
 
 -- an answer of either width, and the code's answer as one
 pub data Answer : Type 0 where
@@ -26,18 +22,18 @@ pub data Answer : Type 0 where
   double : Rectangle → Answer
   refused_with : Refusal → Answer
 
-abbrev pub answer : Found → Answer
-answer (Short r) = short (rectangle32 r)
-answer (Double r) = double (rectangle64 r)
-answer (Refused q) = refused_with q
+abbrev pub answer : Result Found Refusal → Answer
+answer (Ok (Short r)) = short r
+answer (Ok (Double r)) = double r
+answer (Err q) = refused_with q
 
 abbrev pub in_short : Bounds → Answer
-in_short (within r) = short r
-in_short (refused q) = refused_with q
+in_short (Ok r) = short r
+in_short (Err q) = refused_with q
 
 abbrev pub in_double : Bounds → Answer
-in_double (within r) = double r
-in_double (refused q) = refused_with q
+in_double (Ok r) = double r
+in_double (Err q) = refused_with q
 
 -- the bounds of the coordinates s by the column's type: C, Z in f32, B, Y in f64; 13 with the column number for another type
 unfoldable pub by_type : FieldType → Order → List ℕ → ℕ → Answer
@@ -71,31 +67,10 @@ is_coordinates type.Date = false
 is_coordinates type.NullField = false
 is_coordinates type.Triplet = false
 
--- the refusal of a value, or none
-abbrev pub refusal_of : Value → Refusal
-refusal_of (value.Refused q) = q
-refusal_of (value.Short v) = fine
-refusal_of value.ShortNull = fine
-refusal_of (value.Integer v) = fine
-refusal_of value.IntegerNull = fine
-refusal_of (value.Float b) = fine
-refusal_of (value.FloatNull b) = fine
-refusal_of (value.Double b) = fine
-refusal_of (value.DoubleNull b) = fine
-refusal_of (value.Triplet ids) = fine
-refusal_of (value.Text p n) = fine
-refusal_of (value.Date p n) = fine
-refusal_of (value.Coordinates p n) = fine
-refusal_of value.Empty = fine
-
--- the bounds of the coordinates that a value shows, or its refusal
-unfoldable pub found_in : List ℕ → FieldType → Order → ℕ → Value → Answer
-found_in file kind o k v = cond (eqb (refusal_of v).number 0) (by_type kind o (part_of file v) k) (refused_with (refusal_of v))
-
 -- what a row gives: its own refusal, or what is found between its bounds
 abbrev pub in_row : Row → (ℕ → ℕ → Answer) → Answer
-in_row (row.Between start end) f = f start end
-in_row (row.Refused q) f = refused_with q
+in_row (Ok lies) f = f lies.start lies.end
+in_row (Err q) f = refused_with q
 
 -- the coordinates in column k of a row from start to end: the part of the file that the field shows
 abbrev pub coordinates_in : List ℕ → Layout → ℕ → ℕ → ℕ → List ℕ

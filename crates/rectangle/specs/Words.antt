@@ -1,5 +1,5 @@
 -- The rectangle of a column in a row in document 01's words: when there is one, what it is, and which refusal is given instead.
-use Rattle.std.specs.Prelude.{◌≡◌, ◌⊎◌, cond, List, ℕ}
+use Rattle.std.specs.Prelude.{◌≡◌, ◌⊎◌, cond, List, ℕ, Err}
 use Rattle.std.specs.Float.{Format, binary32, binary64}
 use Rattle.laws.specs.Lowest.{At}
 use Rattle.refusal.specs.Order.{refusal}
@@ -13,8 +13,7 @@ use Rattle.bounds.specs.Bounds.{Rectangle, Coordinates, coordinates, count, unfi
 use Rattle.bounds.specs.Words as bounds
 use Rattle.header.specs.declared.ColumnLayout.{ColumnLayout}
 use Rattle.opening.specs.declared.Table.{Table}
-use Rattle.table.specs.declared.Row.TheVariants.{Between, Refused}
-use Rattle.table.specs.Rows.{column_at, row_of}
+use Rattle.table.specs.Rows.{column_at, between, row_of}
 use Rattle.table.specs.Values.{value_of, part_of}
 use Rattle.table.specs.Words.{RowThere, ColumnThere, NoRow}
 use Rattle.rectangle.specs.Rectangles.{Answer, short, double}
@@ -42,7 +41,7 @@ module _ (file index : List ℕ) (t : Table) (i k : ℕ) where
 
   -- the row is accepted
   abbrev pub RowAccepted : Type 0
-  RowAccepted = (start : ℕ) × (end : ℕ) × (row_of file index t i ≡ Between start end)
+  RowAccepted = (start : ℕ) × (end : ℕ) × (row_of file index t i ≡ between start end)
 
   -- its coordinates: in the part of the file that the value shows
   abbrev pub line : Format → Parts → Coordinates
@@ -74,7 +73,7 @@ module _ (file index : List ℕ) (t : Table) (i k : ℕ) where
     pub format : Format
     pub parts : Parts
     pub kind : HasCoordinates format parts
-    pub refused : row_of file index t i ≡ Refused (refusal n p)
+    pub refused : row_of file index t i ≡ Err (refusal n p)
 
   -- "12: x or y not finite, or no coordinates", at the lowest such coordinate from 1, or at 0
   pub record LineBad (n p : ℕ) : Type 0 where

@@ -1,5 +1,5 @@
 -- "refuses it with one number and one place": the record, and what "tested in order, lowest row or side first" means.
-use Rattle.std.specs.Prelude.{◌≡◌, Bool, cond, List, [], ◌∷◌, ◌++◌, ℕ, zero, suc, eqb, ltb}
+use Rattle.std.specs.Prelude.{◌≡◌, Bool, cond, List, [], ◌∷◌, ◌++◌, ℕ, zero, suc, eqb, ltb, Option, Some, None, Result, Ok, Err}
 use Rattle.laws.specs.Lowest.{lowest}
 use Rattle.refusal.specs.declared.Refusal.{Refusal}
 
@@ -10,6 +10,22 @@ refusal n p = record { number = n; place = p }
 -- nothing is refused
 abbrev pub fine : Refusal
 fine = refusal 0 0
+
+-- WHAT CODE ANSWERS: x, or the refusal where there is one; a refusal with the number 0 says that there is none
+abbrev pub unless : {T : Type 0} → Refusal → T → Result T Refusal
+unless q x = cond (eqb q.number 0) (Ok x) (Err q)
+
+-- of a test
+abbrev pub Answer : Type 0
+Answer = Result (Unit {0}) Refusal
+
+abbrev pub answered : Refusal → Answer
+answered q = unless q tt
+
+-- n at the place that is found, if one is
+abbrev pub refused_at : ℕ → Option ℕ → Answer
+refused_at n None = Ok tt
+refused_at n (Some p) = Err (refusal n p)
 
 -- n at the place p where the test fails
 abbrev pub refused_if : Bool → ℕ → ℕ → Refusal

@@ -12,7 +12,7 @@ use refusal::Refusal;
 // Room for every line, whatever its numbers: the longest has 115 bytes. A buffer that has less is left as it is, and no line is told.
 pub const LINE_ROOM: usize = 128;
 
-#[derive(Clone, Copy)]
+#[derive(Clone, Copy, Debug, PartialEq, Eq)]
 pub enum FileName {
     Edg,
     Edx,
@@ -58,6 +58,7 @@ fn digit_of(n: usize) -> u8
 }
 
 // A number written in decimal at a place: what stands before its last digit, then that digit; the place after it.
+// By hand, since there is no heap: `write!` to a lent slice would need a writer of its own, longer than this.
 fn put_number(out: &mut [u8], at: usize, n: usize) -> usize
     requires { at + most_digits ≤ length out.old }
     ensures value { (result ≡ at + length (decimal n)) × (result ≤ at + most_digits) }

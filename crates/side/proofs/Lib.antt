@@ -1,2 +1,3 @@
 pub mod SuccessorExactly
 pub mod SideLaws
+pub mod KindLaws

@@ -5,13 +5,14 @@ use mathlib.Core.List.{◌++◌}
 use Prim.Native.Nat.{ℕ, ◌*◌, ◌%◌, ◌≤◌, ◌<◌}
 use native.Mathlib.Omega.{arith}
 use lib.Dec.{eqb, ltb}
-use borrow.Author.Tests.{eq-eqb, ne_eqb, lt-ltb, le-ltb, eqb-false, ltb-false}
+use borrow.Author.Tests.{eq-eqb, ne_eqb, eqb-false, ltb-false}
 use Rattle.laws.specs.Orbit.{entry}
 use Rattle.laws.proofs.LowestLaws.{bool_cases}
 use Rattle.side.specs.Edges.{Edges, edge_count, side_count, edge_of, outside, right, left, link, runs_to, face}
-use Rattle.side.specs.Successor.{side_if, the_one, leaving, leaving_edge, successor, side_of, after}
-use Rattle.side.specs.declared.Successor.{Successor}
-use Rattle.side.specs.declared.Successor.TheVariants.{Side, Wrong}
+use Rattle.side.specs.Successor.{side_if, the_one, leaving, leaving_edge, Successor, successor, side_of, after}
+use Rattle.std.specs.Prelude.{Ok, Err}
+use Rattle.refusal.specs.Kinds.{number_of}
+use Rattle.refusal.specs.declared.Kind.TheVariants.{EdgeOutOfRange}
 
 or_false : (a b : Bool) → (a || b) ≡ false → (a ≡ false) × (b ≡ false)
 or_false true b e = absurd (true≢false e)
@@ -25,20 +26,16 @@ not-outside most x e =
     (omega arith, ltb-false most x h.1)
 
 module _ (t : Edges) where
-  pub link_zero : (k v f : ℕ) → k ≡ 0 → Wrong 22 ≡ leaving_edge t k v f
+  pub link_outside : (k v f : ℕ) → outside (edge_count t) k ≡ true → Err EdgeOutOfRange ≡ leaving_edge t k v f
   unfolding leaving_edge
-  link_zero k v f z = rw (eq-eqb k 0 z)
-
-  pub link_beyond : (k v f : ℕ) → (k ≡ 0 → ⊥) → edge_count t < k → Wrong 22 ≡ leaving_edge t k v f
-  unfolding leaving_edge
-  link_beyond k v f z h = rw (ne_eqb k 0 z, lt-ltb (edge_count t) k h)
+  link_outside k v f o = rw o
 
 module _ (t : Edges) (r : Successor) where
-  pub chosen : (k v f sn en rf lf : ℕ) → (k ≡ 0 → ⊥) → k ≤ edge_count t
+  pub link_inside : (k v f sn en rf lf : ℕ) → outside (edge_count t) k ≡ false
       → sn ≡ entry t.start_node k → en ≡ entry t.end_node k → rf ≡ entry t.right_face k → lf ≡ entry t.left_face k
       → r ≡ leaving sn en rf lf k v f → r ≡ leaving_edge t k v f
   unfolding leaving_edge
-  chosen k v f sn en rf lf z h p q x y e = rw (ne_eqb k 0 z, le-ltb (edge_count t) k h) (e ∙ (λ i. leaving (p i) (q i) (x i) (y i) k v f))
+  link_inside k v f sn en rf lf o p q x y e = rw o (e ∙ (λ i. leaving (p i) (q i) (x i) (y i) k v f))
 
   pub right_follows : (s k v f : ℕ) → s % 2 ≡ 1 → k ≡ entry t.right_edge (edge_of s)
       → v ≡ entry t.end_node (edge_of s) → f ≡ entry t.right_face (edge_of s)
@@ -54,8 +51,8 @@ module _ (t : Edges) (r : Successor) where
 
 -- ---- every answer is a side of the tile, or one of the four numbers
 abbrev pub Sound : ℕ → Successor → Type 0
-Sound n (Side u) = (0 < u) × (u ≤ n)
-Sound n (Wrong w) = (22 ≤ w) × (w ≤ 25)
+Sound n (Ok u) = (0 < u) × (u ≤ n)
+Sound n (Err k) = (22 ≤ number_of k) × (number_of k ≤ 25)
 
 -- p, q: the edge's start, its end is the node; x, y: its right, its left face is the face
 leaving_sound : (k m : ℕ) (p q x y : Bool) → 0 < k → k ≤ m
@@ -84,8 +81,8 @@ successor_sound t s =
 
 -- the successor as a function leads to a side or to 0
 sound_le : (n : ℕ) (c : Successor) → Sound n c → side_of c ≤ n
-sound_le n (Side u) h = h.1
-sound_le n (Wrong w) h = omega arith
+sound_le n (Ok u) h = h.1
+sound_le n (Err k) h = omega arith
 
 pub after-at_most : (t : Edges) (s : ℕ) → after t s ≤ side_count t
 after-at_most t s = sound_le (side_count t) (successor t s) (successor_sound t s)

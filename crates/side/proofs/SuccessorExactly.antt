@@ -12,9 +12,12 @@ use Rattle.laws.specs.Orbit.{entry}
 use Rattle.laws.proofs.LowestLaws.{bool_cases}
 use Rattle.laws.proofs.TestLaws.{or_false, nonzero, not_above}
 use Rattle.side.specs.Edges.{Edges, edge_count, side_count, outside, right, left, edge_of, by_side, face, runs_to, link, leaves_from}
-use Rattle.side.specs.Successor.{leaving, leaving_edge, successor, side_of, after, LinkIn, Leaves, Follows, Fault, no_touch, other_face, both_sides}
-use Rattle.side.specs.declared.Successor.{Successor}
-use Rattle.side.specs.declared.Successor.TheVariants.{Side, Wrong}
+use Rattle.side.specs.Successor.{leaving, leaving_edge, Successor, successor, side_of, after, LinkIn, Leaves, Follows, Fault, no_touch, other_face, both_sides}
+use Rattle.std.specs.Prelude.{Ok, Err}
+use Rattle.refusal.specs.Kinds.{number_of}
+use Rattle.refusal.specs.declared.Kind.{Kind}
+use Rattle.refusal.specs.declared.Kind.TheVariants.{EdgeOutOfRange, NotTouching, FaceDiffers, LoopOfOneFace}
+use Rattle.side.proofs.KindLaws.{same_kind}
 
 -- the test `outside` says that a number is none of 1..most
 pub not-outside : (most x : ℕ) → (outside most x ≡ false) ↔ ((0 < x) × (x ≤ most))
@@ -76,11 +79,11 @@ module _ (k : ℕ) (pos : 0 < k) where
 
 -- ---- the five ways in which the edge k is left from the node v with the face f
 data Departs (sn en rf lf k v f : ℕ) : Successor → Type 0 where
-  by_right : sn ≡ v → rf ≡ f → (en ≡ v → lf ≡ f → ⊥) → Departs sn en rf lf k v f (Side (right k))
-  by_left : en ≡ v → lf ≡ f → (sn ≡ v → rf ≡ f → ⊥) → Departs sn en rf lf k v f (Side (left k))
-  by_neither : (sn ≡ v → ⊥) → (en ≡ v → ⊥) → Departs sn en rf lf k v f (Wrong 23)
-  with_other_face : (sn ≡ v) ⊎ (en ≡ v) → (sn ≡ v → rf ≡ f → ⊥) → (en ≡ v → lf ≡ f → ⊥) → Departs sn en rf lf k v f (Wrong 24)
-  by_both : sn ≡ v → rf ≡ f → en ≡ v → lf ≡ f → Departs sn en rf lf k v f (Wrong 25)
+  by_right : sn ≡ v → rf ≡ f → (en ≡ v → lf ≡ f → ⊥) → Departs sn en rf lf k v f (Ok (right k))
+  by_left : en ≡ v → lf ≡ f → (sn ≡ v → rf ≡ f → ⊥) → Departs sn en rf lf k v f (Ok (left k))
+  by_neither : (sn ≡ v → ⊥) → (en ≡ v → ⊥) → Departs sn en rf lf k v f (Err NotTouching)
+  with_other_face : (sn ≡ v) ⊎ (en ≡ v) → (sn ≡ v → rf ≡ f → ⊥) → (en ≡ v → lf ≡ f → ⊥) → Departs sn en rf lf k v f (Err FaceDiffers)
+  by_both : sn ≡ v → rf ≡ f → en ≡ v → lf ≡ f → Departs sn en rf lf k v f (Err LoopOfOneFace)
 
 departs : (sn en rf lf k v f : ℕ) → Departs sn en rf lf k v f (leaving sn en rf lf k v f)
 departs sn en rf lf k v f =
@@ -119,8 +122,8 @@ departs sn en rf lf k v f =
 
 -- each answer in words
 abbrev pub Says : Edges → ℕ → Successor → Type 0
-Says t s (Side u) = Follows t s u
-Says t s (Wrong n) = ((n ≡ 22) × (LinkIn t s → ⊥)) ⊎ (LinkIn t s × Fault t s n)
+Says t s (Ok u) = Follows t s u
+Says t s (Err k) = ((number_of k ≡ 22) × (LinkIn t s → ⊥)) ⊎ (LinkIn t s × Fault t s (number_of k))
 
 -- a side with a successor has no fault, and no side has two
 module _ (t : Edges) (s : ℕ) (pos : 0 < link t s) where
@@ -142,15 +145,15 @@ module _ (t : Edges) (s : ℕ) (pos : 0 < link t s) where
 
 -- THE WORDS OF AT MOST ONE ANSWER hold
 pub one_answer : (t : Edges) (s : ℕ) (c d : Successor) → Says t s c → Says t s d → c ≡ d
-one_answer t s (Side u) (Side w) a b = ap Side (b.only u a.leaves)
-one_answer t s (Side u) (Wrong n) a (inl b) = absurd (b.1 a.edge)
-one_answer t s (Side u) (Wrong n) a (inr b) = absurd (no_fault t s b.0.0 u n a b.1)
-one_answer t s (Wrong n) (Side u) (inl a) b = absurd (a.1 b.edge)
-one_answer t s (Wrong n) (Side u) (inr a) b = absurd (no_fault t s a.0.0 u n b a.1)
-one_answer t s (Wrong n) (Wrong m) (inl a) (inl b) = ap Wrong (a.0 ∙ sym b.0)
-one_answer t s (Wrong n) (Wrong m) (inl a) (inr b) = absurd (a.1 b.0)
-one_answer t s (Wrong n) (Wrong m) (inr a) (inl b) = absurd (b.1 a.0)
-one_answer t s (Wrong n) (Wrong m) (inr a) (inr b) = ap Wrong (one_fault t s a.0.0 n m a.1 b.1)
+one_answer t s (Ok u) (Ok w) a b = ap Ok (b.only u a.leaves)
+one_answer t s (Ok u) (Err k) a (inl b) = absurd (b.1 a.edge)
+one_answer t s (Ok u) (Err k) a (inr b) = absurd (no_fault t s b.0.0 u (number_of k) a b.1)
+one_answer t s (Err k) (Ok u) (inl a) b = absurd (a.1 b.edge)
+one_answer t s (Err k) (Ok u) (inr a) b = absurd (no_fault t s a.0.0 u (number_of k) b a.1)
+one_answer t s (Err k) (Err m) (inl a) (inl b) = ap Err (same_kind k m (a.0 ∙ sym b.0))
+one_answer t s (Err k) (Err m) (inl a) (inr b) = absurd (a.1 b.0)
+one_answer t s (Err k) (Err m) (inr a) (inl b) = absurd (b.1 a.0)
+one_answer t s (Err k) (Err m) (inr a) (inr b) = ap Err (same_kind k m (one_fault t s a.0.0 (number_of k) (number_of m) a.1 b.1))
 
 -- THE WORDS OF THE SUCCESSOR'S ANSWER hold
 module _ (t : Edges) (s : ℕ) where
@@ -192,18 +195,29 @@ module _ (t : Edges) (s : ℕ) where
       (λ o. rw o (in_words ((not-outside (edge_count t) (link t s)).0 o) _ (departs _ _ _ _ _ _ _)))
 
 -- ---- "The successor is the side of the linked edge that leaves from that node", exactly
-pub successor_follows : (t : Edges) (s u : ℕ) → successor t s ≡ Side u → Follows t s u
+pub successor_follows : (t : Edges) (s u : ℕ) → successor t s ≡ Ok u → Follows t s u
 successor_follows t s u e = rw e at (says t s)
 
-pub follows_successor : (t : Edges) (s u : ℕ) → Follows t s u → successor t s ≡ Side u
-follows_successor t s u h = one_answer t s (successor t s) (Side u) (says t s) h
+pub follows_successor : (t : Edges) (s u : ℕ) → Follows t s u → successor t s ≡ Ok u
+follows_successor t s u h = one_answer t s (successor t s) (Ok u) (says t s) h
 
 -- "link does not touch; face differs; loop with the face on both sides" (23, 24, 25), the link being in 1..E, exactly
-pub wrong_fault : (t : Edges) (s n : ℕ) → LinkIn t s → successor t s ≡ Wrong n → Fault t s n
-wrong_fault t s n l e = ⊎_elim (λ h. absurd (h.1 l)) (λ h. h.1) (rw e at (says t s))
+pub wrong_fault : (t : Edges) (s : ℕ) (k : Kind) → LinkIn t s → successor t s ≡ Err k → Fault t s (number_of k)
+wrong_fault t s k l e = ⊎_elim (λ h. absurd (h.1 l)) (λ h. h.1) (rw e at (says t s))
 
-pub fault_wrong : (t : Edges) (s n : ℕ) → LinkIn t s → Fault t s n → successor t s ≡ Wrong n
-fault_wrong t s n l h = one_answer t s (successor t s) (Wrong n) (says t s) (inr (l, h))
+pub fault_wrong : (t : Edges) (s : ℕ) (k : Kind) → LinkIn t s → Fault t s (number_of k) → successor t s ≡ Err k
+fault_wrong t s k l h = one_answer t s (successor t s) (Err k) (says t s) (inr (l, h))
+
+-- each fault is answered by its kind
+fault_kind : (t : Edges) (s n : ℕ) → Fault t s n → (k : Kind) × (number_of k ≡ n)
+fault_kind t s n (no_touch none) = (NotTouching, refl)
+fault_kind t s n (other_face w a b none) = (FaceDiffers, refl)
+fault_kind t s n (both_sides r l) = (LoopOfOneFace, refl)
+
+pub fault_answer : (t : Edges) (s n : ℕ) → LinkIn t s → Fault t s n → (k : Kind) × (number_of k ≡ n) × (successor t s ≡ Err k)
+fault_answer t s n l h =
+    let w = fault_kind t s n h in
+    (w.0, w.1, fault_wrong t s w.0 l (rw w.1 h))
 
 -- 23, 24 and 25 are all the numbers of faults
 pub fault_number : (t : Edges) (s n : ℕ) → Fault t s n → (23 ≤ n) × (n ≤ 25)
@@ -212,16 +226,16 @@ fault_number t s n (other_face w a b none) = (omega arith, omega arith)
 fault_number t s n (both_sides r l) = (omega arith, omega arith)
 
 -- 22 exactly where the link is none of 1..E
-pub wrong_link : (t : Edges) (s : ℕ) → successor t s ≡ Wrong 22 → LinkIn t s → ⊥
-wrong_link t s e l = omega (arith, fault_number t s 22 (wrong_fault t s 22 l e))
+pub wrong_link : (t : Edges) (s : ℕ) → successor t s ≡ Err EdgeOutOfRange → LinkIn t s → ⊥
+wrong_link t s e l = omega (arith, fault_number t s 22 (wrong_fault t s EdgeOutOfRange l e))
 
-pub link_wrong : (t : Edges) (s : ℕ) → (LinkIn t s → ⊥) → successor t s ≡ Wrong 22
-link_wrong t s h = one_answer t s (successor t s) (Wrong 22) (says t s) (inl (refl, h))
+pub link_wrong : (t : Edges) (s : ℕ) → (LinkIn t s → ⊥) → successor t s ≡ Err EdgeOutOfRange
+link_wrong t s h = one_answer t s (successor t s) (Err EdgeOutOfRange) (says t s) (inl (refl, h))
 
 -- so each wrong answer has one of the numbers 22 to 25
-pub wrong_number : (t : Edges) (s n : ℕ) → successor t s ≡ Wrong n → (22 ≤ n) × (n ≤ 25)
-wrong_number t s n e =
-    ⊎_elim (λ h. (omega arith, omega arith)) (λ h. let b = fault_number t s n h.1 in (omega arith, omega arith)) (rw e at (says t s))
+pub wrong_number : (t : Edges) (s : ℕ) (k : Kind) → successor t s ≡ Err k → (22 ≤ number_of k) × (number_of k ≤ 25)
+wrong_number t s k e =
+    ⊎_elim (λ h. (omega arith, omega arith)) (λ h. let b = fault_number t s (number_of k) h.1 in (omega arith, omega arith)) (rw e at (says t s))
 
 -- ---- A SUCCESSOR IS ONE OF THE SIDES 1..2E and "must have that face"
 pub record InStep (t : Edges) (s u : ℕ) : Type 0 where
@@ -229,7 +243,7 @@ pub record InStep (t : Edges) (s u : ℕ) : Type 0 where
   pub within : u ≤ side_count t
   pub same_face : face t u ≡ face t s
 
-pub successor_side : (t : Edges) (s u : ℕ) → successor t s ≡ Side u → InStep t s u
+pub successor_side : (t : Edges) (s u : ℕ) → successor t s ≡ Ok u → InStep t s u
 successor_side t s u e =
     let h = successor_follows t s u e in
     let q = h.leaves.linked in
@@ -237,22 +251,22 @@ successor_side t s u e =
     record { pos = omega arith; within = omega arith; same_face = h.leaves.bears }
 
 -- the successor as a function on sides: 0 where there is none, so that a walk that breaks stays at 0
-after_is : (t : Edges) (s : ℕ) (c : Successor) → successor t s ≡ c → 0 < side_of c → successor t s ≡ Side (side_of c)
-after_is t s (Side u) e h = e
-after_is t s (Wrong n) e h = absurd (omega arith)
+after_is : (t : Edges) (s : ℕ) (c : Successor) → successor t s ≡ c → 0 < side_of c → successor t s ≡ Ok (side_of c)
+after_is t s (Ok u) e h = e
+after_is t s (Err k) e h = absurd (omega arith)
 
-pub after_side : (t : Edges) (s : ℕ) → 0 < after t s → successor t s ≡ Side (after t s)
+pub after_side : (t : Edges) (s : ℕ) → 0 < after t s → successor t s ≡ Ok (after t s)
 after_side t s h = after_is t s (successor t s) refl h
 
-pub side_after_lem : (t : Edges) (s u : ℕ) → successor t s ≡ Side u → after t s ≡ u
+pub side_after_lem : (t : Edges) (s u : ℕ) → successor t s ≡ Ok u → after t s ≡ u
 side_after_lem t s u e = rw e
 
 pub after_zero : (t : Edges) → after t 0 ≡ 0
 after_zero t = ap side_of (link_wrong t 0 (λ l. omega arith))
 
 at_most_go : (t : Edges) (s : ℕ) (c : Successor) → successor t s ≡ c → side_of c ≤ side_count t
-at_most_go t s (Side u) e = (successor_side t s u e).within
-at_most_go t s (Wrong n) e = omega arith
+at_most_go t s (Ok u) e = (successor_side t s u e).within
+at_most_go t s (Err k) e = omega arith
 
 pub after-at_most : (t : Edges) (s : ℕ) → after t s ≤ side_count t
 after-at_most t s = at_most_go t s (successor t s) refl

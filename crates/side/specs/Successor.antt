@@ -1,10 +1,14 @@
 -- "The successor is the side of the linked edge that leaves from that node: right if it is the linked edge's start, left if
 -- its end. If the linked edge is a loop there, it is the one side with the present face; any successor must have that face."
-use Rattle.std.specs.Prelude.{◌≡◌, Bool, cond, ◌&&◌, List, [], ◌∷◌, ◌++◌, ℕ, ◌≤◌, ◌<◌, eqb}
+use Rattle.std.specs.Prelude.{◌≡◌, Bool, cond, ◌&&◌, List, [], ◌∷◌, ◌++◌, ℕ, ◌≤◌, ◌<◌, eqb, Result, Ok, Err}
 use Rattle.laws.specs.Orbit.{entry}
 use Rattle.side.specs.Edges.{Edges, edge_count, outside, right, left, edge_of, face, runs_to, link, leaves_from}
-use Rattle.side.specs.declared.Successor.{Successor}
-use Rattle.side.specs.declared.Successor.TheVariants.{Side, Wrong}
+use Rattle.refusal.specs.declared.Kind.{Kind}
+use Rattle.refusal.specs.declared.Kind.TheVariants.{EdgeOutOfRange, NotTouching, FaceDiffers, LoopOfOneFace}
+
+-- the next side on a walk, or what is wrong at the side
+abbrev pub Successor : Type 0
+Successor = Result ℕ Kind
 
 -- u where the test holds: a list of one or of none
 abbrev pub side_if : Bool → ℕ → List ℕ
@@ -22,10 +26,10 @@ sides_from_with sn en rf lf k v f = side_if (eqb sn v && eqb rf f) (right k) ++ 
 -- "link does not touch; face differs; loop with the face on both sides" (23, 24, 25): no side leaves from the node; none of
 -- those that do has the face; two have it; else the one that has it
 abbrev pub the_one : List ℕ → List ℕ → Successor
-the_one [] having = Wrong 23
-the_one (_ ∷ _) [] = Wrong 24
-the_one (_ ∷ _) (u ∷ []) = Side u
-the_one (_ ∷ _) (u ∷ (w ∷ _)) = Wrong 25
+the_one [] having = Err NotTouching
+the_one (_ ∷ _) [] = Err FaceDiffers
+the_one (_ ∷ _) (u ∷ []) = Ok u
+the_one (_ ∷ _) (u ∷ (w ∷ _)) = Err LoopOfOneFace
 
 -- the side of the edge k that leaves from the node v with the face f, or the number of what is wrong
 abbrev pub leaving : ℕ → ℕ → ℕ → ℕ → ℕ → ℕ → ℕ → Successor
@@ -34,7 +38,7 @@ leaving sn en rf lf k v f = the_one (sides_from sn en k v) (sides_from_with sn e
 -- the same by the rows of the edge table; 22 where the link is none of 1..E
 unfoldable pub leaving_edge : Edges → ℕ → ℕ → ℕ → Successor
 leaving_edge t k v f =
-    cond (outside (edge_count t) k) (Wrong 22)
+    cond (outside (edge_count t) k) (Err EdgeOutOfRange)
     (leaving (entry t.start_node k) (entry t.end_node k) (entry t.right_face k) (entry t.left_face k) k v f)
 
 -- the successor of the side s, or the number of what is wrong there
@@ -42,8 +46,8 @@ unfoldable pub successor : Edges → ℕ → Successor
 successor t s = leaving_edge t (link t s) (runs_to t s) (face t s)
 
 abbrev pub side_of : Successor → ℕ
-side_of (Side u) = u
-side_of (Wrong n) = 0
+side_of (Ok u) = u
+side_of (Err n) = 0
 
 -- the successor as a function on sides, 0 where there is none
 abbrev pub after : Edges → ℕ → ℕ

@@ -20,11 +20,10 @@ use Rattle.header.specs.declared.ColumnLayout.{ColumnLayout}
 use Rattle.header.specs.declared.Layout.{Layout}
 use Rattle.header.specs.Places.{decimal}
 use Rattle.header.specs.Words.{column_at, ColumnSound, AcceptedHeader}
-use Rattle.header.specs.Layouts.{fixed_bytes}
+use Rattle.header.specs.Layouts.{fixed_bytes, layout_of}
 use Rattle.header.specs.LayoutWords.{layout_at, ColumnLaidOut}
 use Rattle.header.proofs.ColumnsJudged.{numeral_not-star}
 use Rattle.header.proofs.LayoutMeans.{laid_out_lem}
-use Rattle.opening.specs.Words.{layout_of}
 use Rattle.table.specs.Words.{FieldEnds}
 use Rattle.opening.proofs.RowWidth.{in_reading}
 

@@ -15,15 +15,14 @@ use Rattle.field.specs.declared.FieldType.{FieldType}
 use Rattle.field.specs.declared.FieldType.TheVariants as type
 use Rattle.field.specs.Fields.{width_of, widest, is_triplet}
 use Rattle.triplet.specs.declared.Ids.{Ids}
-use Rattle.triplet.specs.declared.Triplet.{Triplet}
-use Rattle.triplet.specs.declared.Triplet.TheVariants as triplet
-use Rattle.triplet.specs.Triplet.{triplet_of}
+use Rattle.triplet.specs.Triplet.{Reading, triplet, triplet_of}
 use Rattle.triplet.proofs.OnlyItsBytes.{within}
 use Rattle.header.specs.declared.ColumnLayout.{ColumnLayout}
 use Rattle.header.specs.Layouts.{fixed_bytes}
-use Rattle.table.specs.declared.Reach.TheVariants.{At, Short}
+use Rattle.std.specs.Prelude.{Ok, Err}
+use Rattle.table.specs.declared.Unreached.TheVariants.{Short}
 use Rattle.limits.specs.Limits.{most_rows}
-use Rattle.table.specs.Rows.{plain_end, star_end, past_triplet, triplet_end, field_end}
+use Rattle.table.specs.Rows.{Reach, plain_end, star_end, past_triplet, triplet_end, field_end}
 use Rattle.table.specs.Plans.{triplet_code, star_code, fixed_code, code_of, code_end}
 
 -- a count of four bytes times an element's width
@@ -34,37 +33,37 @@ elements_room n w a b = let h : n * w ≤ 4294967296 * widest = mul-le-mul {n₂
 pub rows_room : (w k : ℕ) → w < 4294967296 → k ≤ most_rows → w * k ≤ 4294967296 * most_rows
 rows_room w k a b = mul-le-mul {n₂ = 4294967296} {m₂ = most_rows} (omega arith) b
 
-not_reached : (p : ℕ) → Short ≡ At p → ⊥
+not_reached : (p : ℕ) → ◌≡◌ {A = Reach} (Err Short) (Ok p) → ⊥
 not_reached p e = let z : ◌≡◌ {A = ℕ} 0 1 = cc in omega arith
 
 -- a triplet in the part of a list from `at` to `end`
 pub triplet_room : (o : Order) (s : List ℕ) (at end n : ℕ) (t : Ids) → at ≤ end → end ≤ length s
-    → triplet_of o (take (end - at) (drop at s)) ≡ triplet.Is t n → at + n ≤ end
+    → triplet_of o (take (end - at) (drop at s)) ≡ Ok (triplet t n) → at + n ≤ end
 triplet_room o s at end n t h l e =
     let k : length (take (end - at) (drop at s)) ≡ end - at = simp (length-take, length-drop) (omega arith) in
     omega (arith, (within o (take (end - at) (drop at s)) t n e).0)
 
-plain_within : (at end need p : ℕ) → at ≤ end → plain_end at end need ≡ At p → p ≤ end
+plain_within : (at end need p : ℕ) → at ≤ end → plain_end at end need ≡ Ok p → p ≤ end
 unfolding plain_end
 plain_within at end need p h e =
     bool_cases (leb need (end - at))
     (λ t. same (rw t at e) (leb-true need (end - at) t))
     (λ t. absurd (not_reached p (rw t at e)))
   where
-    same : At (at + need) ≡ At p → need ≤ end - at → p ≤ end
+    same : ◌≡◌ {A = Reach} (Ok (at + need)) (Ok p) → need ≤ end - at → p ≤ end
     same e t = let q : at + need ≡ p = cc in omega arith
 
-star-within : (o : Order) (s : List ℕ) (at end w p : ℕ) → at ≤ end → star_end o s at end w ≡ At p → p ≤ end
+star-within : (o : Order) (s : List ℕ) (at end w p : ℕ) → at ≤ end → star_end o s at end w ≡ Ok p → p ≤ end
 unfolding star_end
 star-within o s at end w p h e =
     bool_cases (ltb (end - at) 4)
     (λ t. absurd (not_reached p (rw t at e)))
     (λ t. plain_within (at + 4) end (number o s at 4 * w) p (omega (arith, ltb-false (end - at) 4 t)) (rw t at e))
 
-triplet_within : (o : Order) (s : List ℕ) (at end p : ℕ) → at ≤ end → end ≤ length s → (x : Triplet)
-    → triplet_of o (take (end - at) (drop at s)) ≡ x → past_triplet at x ≡ At p → p ≤ end
-triplet_within o s at end p h l (triplet.Is t n) q e = let u : at + n ≡ p = cc in omega (arith, triplet_room o s at end n t h l q)
-triplet_within o s at end p h l (triplet.Refused k) q e = let z : ◌≡◌ {A = ℕ} 0 1 = cc in absurd (omega arith)
+triplet_within : (o : Order) (s : List ℕ) (at end p : ℕ) → at ≤ end → end ≤ length s → (x : Reading)
+    → triplet_of o (take (end - at) (drop at s)) ≡ x → past_triplet at x ≡ Ok p → p ≤ end
+triplet_within o s at end p h l (Ok r) q e = let u : at + r.bytes ≡ p = cc in omega (arith, triplet_room o s at end r.bytes r.ids h l q)
+triplet_within o s at end p h l (Err k) q e = let z : ◌≡◌ {A = ℕ} 0 1 = cc in absurd (omega arith)
 
 -- ---- the codes of columns
 
@@ -114,7 +113,7 @@ module _ (o : Order) (s : List ℕ) (end at : ℕ) where
       (λ u. rw (t, u) (fixed_code_lem (fixed_bytes c))))
 
 -- a field ends within its row
-pub code-within : (o : Order) (s : List ℕ) (end code at p : ℕ) → at ≤ end → end ≤ length s → code_end o s end code at ≡ At p → p ≤ end
+pub code-within : (o : Order) (s : List ℕ) (end code at p : ℕ) → at ≤ end → end ≤ length s → code_end o s end code at ≡ Ok p → p ≤ end
 unfolding code_end triplet_end
 code-within o s end code at p h l e =
     bool_cases (leb fixed_code code)
@@ -125,5 +124,5 @@ code-within o s end code at p h l e =
 
 -- A FIELD ENDS WITHIN ITS ROW
 pub field_within : (o : Order) (s : List ℕ) (end : ℕ) (c : ColumnLayout) (at p : ℕ) → at ≤ end → end ≤ length s
-    → field_end o s end c at ≡ At p → p ≤ end
+    → field_end o s end c at ≡ Ok p → p ≤ end
 field_within o s end c at p h l e = code-within o s end (code_of c) at p h l (code_says o s end at c ∙ e)

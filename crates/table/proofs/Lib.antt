@@ -6,8 +6,7 @@ pub mod FieldExactly
 pub mod RowExactly
 pub mod ColumnBytes
 pub mod ValueOfRow
-pub mod SignedLaws
-pub mod ValueLaws
+pub mod AnsweredRows
 pub mod ValueRefusedExactly
 pub mod RowRefusedExactly
 pub mod PlanLaws

@@ -23,19 +23,18 @@ use Rattle.field.specs.Fields.{letter_of}
 use Rattle.field.specs.declared.FieldType.TheVariants as type
 use Rattle.field.proofs.TableRule.{letter_of_type}
 use Rattle.header.specs.declared.Layout.{Layout}
-use Rattle.header.specs.Layouts.{fixed_bytes}
+use Rattle.header.specs.Layouts.{fixed_bytes, layout_of}
 use Rattle.header.specs.Words as read
 use Rattle.header.specs.LayoutWords.{layout_at, LaidOut}
 use Rattle.header.proofs.LayoutMeans.{laid_out_lem}
 use Rattle.opening.specs.declared.Table.{Table}
-use Rattle.table.specs.declared.Reach.{Reach}
-use Rattle.table.specs.declared.Reach.TheVariants.{At, Short, Cut}
-use Rattle.table.specs.declared.Row.TheVariants.{Between}
+use Rattle.std.specs.Prelude.{Ok, Err}
+use Rattle.table.specs.declared.Unreached.TheVariants.{Short, BadTriplet}
 use Rattle.limits.specs.Limits.{most_rows}
 use Rattle.opening.specs.Opening.{needs_index}
-use Rattle.table.specs.Rows.{columns_of, no_such, no_such_row, column_at, outside, reach, place_of, place_of_column}
+use Rattle.table.specs.Rows.{Reach, between, columns_of, no_such, no_such_row, outside, reach, place_of, place_of_column}
 use Rattle.table.specs.Rows.{id_at, id_refusal, used_up, offset_place, column_place, fields_refusal, row_refusal, row_of}
-use Rattle.opening.specs.Words.{layout_of, Opens}
+use Rattle.opening.specs.Words.{Opens}
 use Rattle.table.specs.Words.{RowRight}
 use Rattle.table.specs.Serving.OpenedRows.{opened_row}
 use Rattle.opening.proofs.RowWidth.{OneWidth, one_width_exactly, in_reading}
@@ -50,13 +49,13 @@ pub not-outside : (s : List ℕ) (start end : ℕ) → start ≤ end → end ≤
 not-outside s start end a b = rw (le-ltb (length s) end b, le-ltb end start a)
 
 -- nothing is refused where the walk comes to the end and the rest is fine
-used_up_exactly : (x : Reach) (end i : ℕ) (rest : Refusal) → ((used_up x end i rest).number ≡ 0) ↔ ((x ≡ At end) × (rest.number ≡ 0))
-used_up_exactly (At p) end i rest =
+used_up_exactly : (x : Reach) (end i : ℕ) (rest : Refusal) → ((used_up x end i rest).number ≡ 0) ↔ ((x ≡ Ok end) × (rest.number ≡ 0))
+used_up_exactly (Ok p) end i rest =
     bool_cases (eqb p end)
-    (λ t. let q = eqb-true p end t in rw t (λ e. (ap At q, e), λ w. w.1))
+    (λ t. let q = eqb-true p end t in rw t (λ e. (ap Ok q, e), λ w. w.1))
     (λ t. rw t (λ e. absurd (omega (arith, e)), λ w. let q : p ≡ end = cc w.0 in absurd (eqb-false p end t q)))
-used_up_exactly Short end i rest = (λ e. absurd (omega (arith, e)), λ w. clash (cc w.0))
-used_up_exactly (Cut q) end i rest = (λ e. absurd (omega (arith, e)), λ w. clash (cc w.0))
+used_up_exactly (Err Short) end i rest = (λ e. absurd (omega (arith, e)), λ w. clash (cc w.0))
+used_up_exactly (Err (BadTriplet q)) end i rest = (λ e. absurd (omega (arith, e)), λ w. clash (cc w.0))
 
 id_exactly : (s : List ℕ) (l : Layout) (p i : ℕ) → ((id_refusal s l p i).number ≡ 0) ↔ (number l.order s p 4 ≡ i)
 id_exactly s l p i =
@@ -105,17 +104,17 @@ module _ (file index : List ℕ) (most : ℕ) (h : Reading) (n : ℕ) (o : Opens
 
     -- ---- the bytes s of the row: the file's, or any others that reach as far
     module _ (s : List ℕ) (inside : end ≤ length s) where
-      reach_fixed : OneWidth file → (k : ℕ) → k ≤ l.columns → reach s l start end k ≡ At (start + sum sizes k)
-      reach_fixed w zero a = ap At (omega arith)
+      reach_fixed : OneWidth file → (k : ℕ) → k ≤ l.columns → reach s l start end k ≡ Ok (start + sum sizes k)
+      reach_fixed w zero a = ap Ok (omega arith)
       reach_fixed w (suc k) a =
           let f = fixed_column w (suc k) (omega arith, a) in
           (next_field s l start end forward inside k (start + sum sizes k) (start + sum sizes (suc k)) (reach_fixed w k (omega arith))).1
           (inr (inr (record { kind = f.0; no_star = f.1; ends = omega arith; inside = sizes_fit w (suc k) a })))
 
       -- BY THE OPENING the walk comes to the end of such a row
-      pub fixed_reach : OneWidth file → reach s l start end l.columns ≡ At end
+      pub fixed_reach : OneWidth file → reach s l start end l.columns ≡ Ok end
       fixed_reach w =
-          reach_fixed w l.columns (omega arith) ∙ ap At (omega (arith, row_width file index most h n o w i r, width_sum w))
+          reach_fixed w l.columns (omega arith) ∙ ap Ok (omega (arith, row_width file index most h n o w i r, width_sum w))
 
       -- THE PLACE BY OFFSET IS THAT OF THE WALK
       fixed_place : OneWidth file → (k : ℕ) → In l.columns k → offset_place l start end k ≡ place_of_column s l start end k
@@ -176,7 +175,7 @@ module _ (file index : List ℕ) (most : ℕ) (h : Reading) (n : ℕ) (o : Opens
     pub row_there : no_such_row opened i ≡ false
     row_there = there (min n most_rows) i (r.0, omega (arith, r.1, o.row_limit))
 
-    pub row_of_exactly : (row_of file index opened i ≡ Between start end) ↔ RowRight file l start end i
+    pub row_of_exactly : (row_of file index opened i ≡ between start end) ↔ RowRight file l start end i
     unfolding row_of
     row_of_exactly =
         rw row_there

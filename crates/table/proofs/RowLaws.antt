@@ -1,7 +1,7 @@
 -- What the tests before a row's fields say: that the row lies inside the file, that a column or row is there.
-use mathlib.Core.Path.{◌≡◌, sym, ◌∙◌}
+use mathlib.Core.Path.{◌≡◌, refl, sym, ◌∙◌}
 use mathlib.Core.Logic.{by_cases}
-use mathlib.Core.Bool.{Bool, false}
+use mathlib.Core.Bool.{Bool, true, false, true≢false}
 use mathlib.Core.List.{List}
 use Prim.Native.Nat.{ℕ, ◌≤◌, ◌<◌}
 use native.Mathlib.Omega.{arith}
@@ -12,12 +12,14 @@ use borrow.Author.Tests.{eqb-false, ltb-false}
 use Rattle.laws.proofs.LowestLaws.{bool_cases}
 use Rattle.laws.proofs.TestLaws.{both_false, clash}
 use Rattle.refusal.specs.declared.Refusal.{Refusal}
-use Rattle.refusal.specs.Order.{first}
+use Rattle.refusal.specs.Order.{answered, fine, first}
 use Rattle.refusal.proofs.OrderLaws.{first-refuses}
 use Rattle.header.specs.declared.Layout.{Layout}
 use Rattle.opening.specs.declared.Table.{Table}
 use Rattle.limits.specs.Limits.{most_columns, most_rows}
-use Rattle.table.specs.Rows.{rows_of, columns_of, no_such_row, no_such, no_such_column, outside, place_judged}
+use Rattle.std.specs.Prelude.{Ok, Err}
+use Rattle.table.specs.declared.Unreached.TheVariants.{Short, BadTriplet}
+use Rattle.table.specs.Rows.{Reach, used_up, rows_of, columns_of, no_such_row, no_such, no_such_column, outside, place_judged}
 
 -- a row that is not outside the file
 pub inside : (s : List ℕ) (start end : ℕ) → outside s start end ≡ false → (start ≤ end) × (end ≤ length s)
@@ -57,9 +59,24 @@ place_fine s missing start end i q u z =
     nine : ◌≡◌ {A = ℕ} 9 0 → ◌≡◌ {A = ℕ} 0 1
     nine e = omega arith
 
+-- nor where there is no id column
+pub missing_refused : (s : List ℕ) (start end i : ℕ) → (place_judged s true start end i).number ≡ 0 → ⊥
+missing_refused s start end i e = true≢false (place_fine s true start end i _ refl e).1
+
 -- two tests after one that passes are the same
 pub first_same : (a b c : Refusal) → (a.number ≡ 0 → b ≡ c) → first a b ≡ first a c
 first_same a b c h =
     by_cases (ℕ_discrete a.number 0)
     (λ z. rw (h z))
     (λ z. first-refuses a b z ∙ sym (first-refuses a c z))
+
+-- a row that the walk does not come through, or that it does not use up, is refused whatever its id; and one that it uses up by its id
+pub end_refused : (x : Reach) (end i : ℕ) (rest r : Refusal) → answered (used_up x end i fine) ≡ Err r → answered (used_up x end i rest) ≡ Err r
+end_refused (Ok p) end i rest r e = bool_cases (eqb p end) (λ t. let w = rw t at e in clash (cc)) (λ t. rw t (rw t at e))
+end_refused (Err Short) end i rest r e = e
+end_refused (Err (BadTriplet q)) end i rest r e = e
+
+pub end_passes : (x : Reach) (end i : ℕ) (rest : Refusal) → answered (used_up x end i fine) ≡ Ok tt → used_up x end i rest ≡ rest
+end_passes (Ok p) end i rest e = bool_cases (eqb p end) (λ t. rw t) (λ t. let w = rw t at e in clash (cc))
+end_passes (Err Short) end i rest e = clash (cc)
+end_passes (Err (BadTriplet q)) end i rest e = clash (cc)

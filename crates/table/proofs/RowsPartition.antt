@@ -15,7 +15,8 @@ use Rattle.header.specs.declared.Layout.{Layout}
 use Rattle.opening.specs.Opening.{offset_at, length_at, end_at}
 use Rattle.table.specs.Rows.{bound_of}
 use Rattle.table.specs.Words.{Lies}
-use Rattle.opening.specs.Words.{layout_of, FixedBody, Opens}
+use Rattle.header.specs.Layouts.{layout_of}
+use Rattle.opening.specs.Words.{FixedBody, Opens}
 use Rattle.opening.proofs.OpeningLaws.{end_first, end_entry}
 use Rattle.opening.proofs.RowWidth.{OneWidth, NoWidth, no_width_exactly, one_width_exactly, says_one_width, says_no_width}
 use Rattle.opening.proofs.OpenedExactly.{starts_right, ends_right}

@@ -29,19 +29,18 @@ use Rattle.grammar.specs.Words.{Reading}
 use Rattle.field.specs.declared.FieldType.{FieldType}
 use Rattle.field.specs.declared.FieldType.TheVariants as type
 use Rattle.field.specs.Fields.{width_of, star_of}
-use Rattle.field.specs.Nulls.{short_half, integer_half, signed, short_is_null, integer_is_null, float_is_null, double_is_null}
-use Rattle.triplet.specs.declared.Triplet as read
-use Rattle.triplet.specs.Triplet.{triplet_of}
+use Rattle.field.specs.Nulls.{float_is_null, double_is_null}
+use Rattle.triplet.specs.Triplet.{Reading as TripletRead, triplet_of}
 use Rattle.header.specs.declared.ColumnLayout.{ColumnLayout}
 use Rattle.header.specs.Layouts.{fixed_bytes}
 use Rattle.header.specs.declared.Layout.{Layout}
 use Rattle.header.specs.LayoutWords.{layout_at}
-use Rattle.table.specs.declared.Reach.{Reach}
-use Rattle.table.specs.declared.Reach.TheVariants.{At, Short, Cut}
+use Rattle.std.specs.Prelude.{Ok, Err}
+use Rattle.table.specs.declared.Unreached.TheVariants.{Short, BadTriplet}
 use Rattle.table.specs.declared.Value.{Value}
 use Rattle.table.specs.declared.Value.TheVariants as val
-use Rattle.table.specs.Rows.{column_at, star_end, triplet_end, field_end, onward, reach, place_of, place_of_column, id_refusal, used_up, column_place, row_refusal}
-use Rattle.table.specs.Values.{short_of, integer_of, float_of, double_of, elements_start, elements_bytes, triplet_of_read, by_type, shown, value_of}
+use Rattle.table.specs.Rows.{Reach, column_at, star_end, triplet_end, field_end, onward, reach, place_of, place_of_column, id_refusal, used_up, column_place, row_refusal}
+use Rattle.table.specs.Values.{part_at, short_of, integer_of, float_of, double_of, elements_start, elements_bytes, triplet_of_read, by_type, shown, value_of}
 use Rattle.opening.specs.Words.{Opens}
 use Rattle.table.specs.Words.{FieldEnds, Fields, RowRight, SameRow, PartInside}
 use Rattle.table.proofs.WalkLaws.{came, passed, reach_within}
@@ -51,7 +50,7 @@ use Rattle.table.specs.Serving.OpenedRows.{opened_row}
 use Rattle.table.proofs.RowExactly.{there, means, columns_all, forward, inside-file, place-by_walk, row_by_walk, row_there, row_of_exactly}
 
 -- the walk does not go back
-pub reach-after : (s : List ℕ) (l : Layout) (start end : ℕ) → start ≤ end → end ≤ length s → (k p : ℕ) → reach s l start end k ≡ At p → start ≤ p
+pub reach-after : (s : List ℕ) (l : Layout) (start end : ℕ) → start ≤ end → end ≤ length s → (k p : ℕ) → reach s l start end k ≡ Ok p → start ≤ p
 reach-after s l start end a b zero p e = let q : start ≡ p = cc in omega arith
 reach-after s l start end a b (suc k) p e =
     let x = reach s l start end k in
@@ -88,11 +87,10 @@ module _ (s t : List ℕ) (start end : ℕ) (e : SameRow s t start end) (a : sta
   module _ (l : Layout) where
     onward_same : (k : ℕ) (x : Reach) → reach s l start end k ≡ x
         → onward x (λ p. field_end l.order s end (column_at l (suc k)) p) ≡ onward x (λ p. field_end l.order t end (column_at l (suc k)) p)
-    onward_same k (At p) q =
+    onward_same k (Ok p) q =
         field_same l.order (column_at l (suc k)) p (reach-after s l start end a e.in_first k p q)
         (reach_within s l start end k p a e.in_first q)
-    onward_same k Short q = refl
-    onward_same k (Cut p) q = refl
+    onward_same k (Err z) q = refl
 
     -- THE WALK IS THE SAME
     pub reach_same : (k : ℕ) → reach s l start end k ≡ reach t l start end k
@@ -118,16 +116,16 @@ module _ (s t : List ℕ) (start end : ℕ) (e : SameRow s t start end) (a : sta
     one_number k q none kind = number_same o at (width_of k) i (element_room o s end c at p f one k q none kind)
 
     type_same : (k : FieldType) → c.kind ≡ k → by_type k o s c at end ≡ by_type k o t c at end
-    type_same type.Text q = ap (val.Text (elements_start c at end)) (elements_same (λ z. clash (cc)))
-    type_same type.Latin q = ap (val.Text (elements_start c at end)) (elements_same (λ z. clash (cc)))
-    type_same type.Float q = ap float_of (one_number type.Float q refl (λ z. clash (cc)))
-    type_same type.Double q = ap double_of (one_number type.Double q refl (λ z. clash (cc)))
-    type_same type.Short q = ap short_of (one_number type.Short q refl (λ z. clash (cc)))
-    type_same type.Integer q = ap integer_of (one_number type.Integer q refl (λ z. clash (cc)))
-    type_same type.ShortPair q = ap (val.Coordinates (elements_start c at end)) (elements_same (λ z. clash (cc)))
-    type_same type.ShortTriple q = ap (val.Coordinates (elements_start c at end)) (elements_same (λ z. clash (cc)))
-    type_same type.DoublePair q = ap (val.Coordinates (elements_start c at end)) (elements_same (λ z. clash (cc)))
-    type_same type.DoubleTriple q = ap (val.Coordinates (elements_start c at end)) (elements_same (λ z. clash (cc)))
+    type_same type.Text q = ap (λ (n : ℕ). Ok (val.Text (part_at (elements_start c at end) n))) (elements_same (λ z. clash (cc)))
+    type_same type.Latin q = ap (λ (n : ℕ). Ok (val.Text (part_at (elements_start c at end) n))) (elements_same (λ z. clash (cc)))
+    type_same type.Float q = ap (λ (n : ℕ). Ok (float_of n)) (one_number type.Float q refl (λ z. clash (cc)))
+    type_same type.Double q = ap (λ (n : ℕ). Ok (double_of n)) (one_number type.Double q refl (λ z. clash (cc)))
+    type_same type.Short q = ap (λ (n : ℕ). Ok (short_of n)) (one_number type.Short q refl (λ z. clash (cc)))
+    type_same type.Integer q = ap (λ (n : ℕ). Ok (integer_of n)) (one_number type.Integer q refl (λ z. clash (cc)))
+    type_same type.ShortPair q = ap (λ (n : ℕ). Ok (val.Coordinates (part_at (elements_start c at end) n))) (elements_same (λ z. clash (cc)))
+    type_same type.ShortTriple q = ap (λ (n : ℕ). Ok (val.Coordinates (part_at (elements_start c at end) n))) (elements_same (λ z. clash (cc)))
+    type_same type.DoublePair q = ap (λ (n : ℕ). Ok (val.Coordinates (part_at (elements_start c at end) n))) (elements_same (λ z. clash (cc)))
+    type_same type.DoubleTriple q = ap (λ (n : ℕ). Ok (val.Coordinates (part_at (elements_start c at end) n))) (elements_same (λ z. clash (cc)))
     type_same type.Date q = refl
     type_same type.NullField q = refl
     type_same type.Triplet q = ap (λ (b : List ℕ). triplet_of_read (triplet_of o b)) (part_same at (end - at) i (omega arith))
@@ -138,13 +136,13 @@ module _ (s t : List ℕ) (start end : ℕ) (e : SameRow s t start end) (a : sta
 
 -- ---- the part that a value shows
 module _ (start end : ℕ) where
-  no_part : (b : Bool) (x y : Value) → PartInside start end x → PartInside start end y → PartInside start end (cond b x y)
+  no_part : (b : Bool) (x y : Value) → PartInside start end (Ok x) → PartInside start end (Ok y) → PartInside start end (Ok (cond b x y))
   no_part true x y f g = f
   no_part false x y f g = g
 
-  no_triplet_part : (x : read.Triplet) → PartInside start end (triplet_of_read x)
-  no_triplet_part (read.TheVariants.Is ids n) = tt
-  no_triplet_part (read.TheVariants.Refused q) = tt
+  no_triplet_part : (x : TripletRead) → PartInside start end (triplet_of_read x)
+  no_triplet_part (Ok t) = tt
+  no_triplet_part (Err q) = tt
 
   module _ (o : Order) (s : List ℕ) (c : ColumnLayout) (at p : ℕ) (i : start ≤ at) (f : FieldEnds o s end c at p) (one : OneElement c) where
     elements_inside : (c.kind ≡ type.Triplet → ⊥) → (start ≤ elements_start c at end) × (elements_start c at end + elements_bytes o s c at ≤ end)
@@ -158,8 +156,8 @@ module _ (start end : ℕ) where
     type_inside type.Latin q = elements_inside (λ z. clash (cc))
     type_inside type.Float q = let b = number o s at 4 in no_part (float_is_null b) (val.FloatNull b) (val.Float b) tt tt
     type_inside type.Double q = let b = number o s at 8 in no_part (double_is_null b) (val.DoubleNull b) (val.Double b) tt tt
-    type_inside type.Short q = let b = number o s at 2 in no_part (short_is_null b) val.ShortNull (val.Short (signed short_half b)) tt tt
-    type_inside type.Integer q = let b = number o s at 4 in no_part (integer_is_null b) val.IntegerNull (val.Integer (signed integer_half b)) tt tt
+    type_inside type.Short q = tt
+    type_inside type.Integer q = tt
     type_inside type.ShortPair q = elements_inside (λ z. clash (cc))
     type_inside type.ShortTriple q = elements_inside (λ z. clash (cc))
     type_inside type.DoublePair q = elements_inside (λ z. clash (cc))
@@ -187,7 +185,7 @@ module _ (file index : List ℕ) (most : ℕ) (h : Reading) (n : ℕ) (o : Opens
     all = l.columns
 
     -- the id's four bytes lie in a row whose fields are all there
-    id_same : (p : ℕ) → reach file l start end all ≡ At p
+    id_same : (p : ℕ) → reach file l start end all ≡ Ok p
         → number l.order file (place_of_column file l start end l.id) 4 ≡ number l.order t (place_of_column t l start end l.id) 4
     id_same p q =
         let at = place_of_column file l start end l.id in
@@ -202,9 +200,9 @@ module _ (file index : List ℕ) (most : ℕ) (h : Reading) (n : ℕ) (o : Opens
     judged_same : (x : Reach) → reach file l start end all ≡ x
         → used_up x end i (id_refusal file l (place_of_column file l start end l.id) i) ≡ used_up x end i
         (id_refusal t l (place_of_column t l start end l.id) i)
-    judged_same (At p) q = ap (λ (v : ℕ). used_up (At p) end i (refused_if (not (eqb v i)) 9 i)) (id_same p q)
-    judged_same Short q = refl
-    judged_same (Cut p) q = refl
+    judged_same (Ok p) q = ap (λ (v : ℕ). used_up (Ok p) end i (refused_if (not (eqb v i)) 9 i)) (id_same p q)
+    judged_same (Err Short) q = refl
+    judged_same (Err (BadTriplet p)) q = refl
 
     -- THE ROW'S JUDGEMENT is the same
     pub row_same : row_refusal file l start end i ≡ row_refusal t l start end i
@@ -225,10 +223,10 @@ module _ (file index : List ℕ) (most : ℕ) (h : Reading) (n : ℕ) (o : Opens
     abbrev at : ℕ
     at = place_of_column file l start end k
 
-    came_through : reach file l start end l.columns ≡ At end
+    came_through : reach file l start end l.columns ≡ Ok end
     came_through = fields_end file l start end onwards within right.place right.fields
 
-    came_to : reach file l start end (pred k) ≡ At at
+    came_to : reach file l start end (pred k) ≡ Ok at
     came_to = passed file l start end l.columns end came_through (pred k) (omega (arith, c.1))
 
     after-start : start ≤ at

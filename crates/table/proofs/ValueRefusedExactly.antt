@@ -23,29 +23,23 @@ use Rattle.laws.proofs.TestLaws.{clash}
 use Rattle.refusal.specs.declared.Refusal.{Refusal}
 use Rattle.refusal.specs.Order.{refusal, fine, refused_if, first}
 use Rattle.number.specs.declared.Order.{Order}
-use Rattle.number.specs.Bytes.{number}
 use Rattle.grammar.specs.Words.{Reading}
 use Rattle.field.specs.declared.FieldType.{FieldType}
 use Rattle.field.specs.declared.FieldType.TheVariants as type
-use Rattle.field.specs.Nulls.{short_half, integer_half, signed, short_is_null, integer_is_null, float_is_null, double_is_null}
-use Rattle.triplet.specs.declared.Triplet as read
-use Rattle.triplet.specs.Triplet.{triplet_of}
+use Rattle.triplet.specs.Triplet.{Reading as TripletRead, triplet_of}
 use Rattle.triplet.proofs.ReadExactly.{read_exactly, refused-exactly}
 use Rattle.header.specs.declared.ColumnLayout.{ColumnLayout}
 use Rattle.header.specs.declared.Layout.{Layout}
 use Rattle.header.specs.LayoutWords.{layout_at}
 use Rattle.opening.specs.declared.Table.{Table}
 use Rattle.opening.specs.Opening.{needs_index}
-use Rattle.opening.specs.Words.{layout_of, Opens}
-use Rattle.table.specs.declared.Reach.{Reach}
-use Rattle.table.specs.declared.Reach.TheVariants.{At, Short, Cut}
-use Rattle.table.specs.declared.Row.{Row}
-use Rattle.table.specs.declared.Row.TheVariants as row
-use Rattle.table.specs.declared.Value.{Value}
-use Rattle.table.specs.declared.Value.TheVariants as val
-use Rattle.table.specs.Rows.{rows_of, columns_of, no_such, no_such_row, no_such_column, column_at, bound_of, outside, reach, column_place}
+use Rattle.header.specs.Layouts.{layout_of}
+use Rattle.opening.specs.Words.{Opens}
+use Rattle.std.specs.Prelude.{Ok, Err}
+use Rattle.table.specs.declared.Unreached.TheVariants.{Short, BadTriplet}
+use Rattle.table.specs.Rows.{Reach, Row, between, rows_of, columns_of, no_such, no_such_row, no_such_column, column_at, bound_of, outside, reach, column_place}
 use Rattle.table.specs.Rows.{id_at, id_refusal, used_up, fields_refusal, place_refusal, row_refusal, unless_refused, row_of}
-use Rattle.table.specs.Values.{triplet_of_read, by_type, shown, in_row, field_in, value_of}
+use Rattle.table.specs.Values.{ValueRead, triplet_of_read, by_type, shown, in_row, field_in, value_of}
 use Rattle.table.specs.Words.{FieldEnds, RowRight, RowThere, ColumnThere, NoRow, NoColumn, RowBad, NoTriplet, ValueRefused}
 use Rattle.table.proofs.RowLaws.{such}
 use Rattle.table.proofs.RowExactly.{there, row_of_exactly}
@@ -75,9 +69,9 @@ if_not_13 true n p u = u
 if_not_13 false n p u = fine-not_13
 
 used_up-not_13 : (x : Reach) (end i : ℕ) (rest : Refusal) → Not13 rest → Not13 (used_up x end i rest)
-used_up-not_13 (At p) end i rest u = either_not_13 (eqb p end) rest (refusal 10 i) u (λ e. omega (arith, e))
-used_up-not_13 Short end i rest u = λ e. omega (arith, e)
-used_up-not_13 (Cut q) end i rest u = λ e. omega (arith, e)
+used_up-not_13 (Ok p) end i rest u = either_not_13 (eqb p end) rest (refusal 10 i) u (λ e. omega (arith, e))
+used_up-not_13 (Err Short) end i rest u = λ e. omega (arith, e)
+used_up-not_13 (Err (BadTriplet q)) end i rest u = λ e. omega (arith, e)
 
 module _ (s : List ℕ) (l : Layout) (start end i : ℕ) where
   id_not_13 : (p : ℕ) → Not13 (id_refusal s l p i)
@@ -103,15 +97,15 @@ module _ (s : List ℕ) (l : Layout) (start end i : ℕ) where
       (place_refusal s l start end i) fields_not_13 place_not_13
 
 -- the refusal of a row that is there is its judgement
-unless_refused_lem : (q r : Refusal) (start end : ℕ) → unless_refused q start end ≡ row.Refused r → q ≡ r
+unless_refused_lem : (q r : Refusal) (start end : ℕ) → unless_refused q start end ≡ Err r → q ≡ r
 unless_refused_lem q r start end e =
     bool_cases (eqb q.number 0)
     (λ t. let w = rw t at e in clash (cc))
-    (λ t. let w : row.Refused q ≡ row.Refused r = rw t at e in (cc))
+    (λ t. let w : ◌≡◌ {A = Row} (Err q) (Err r) = rw t at e in (cc))
 
 module _ (file index : List ℕ) (t : Table) (i : ℕ) where
   -- A ROW IS REFUSED WITH 13 EXACTLY WHEN it is none of 1..n, at the asked number
-  pub row_13_exactly : (p : ℕ) → (row_of file index t i ≡ row.Refused (refusal 13 p)) ↔ ((RowThere t i → ⊥) × (p ≡ i))
+  pub row_13_exactly : (p : ℕ) → (row_of file index t i ≡ Err (refusal 13 p)) ↔ ((RowThere t i → ⊥) × (p ≡ i))
   unfolding row_of
   row_13_exactly p =
       let start = bound_of t.layout index (pred i) in
@@ -121,7 +115,7 @@ module _ (file index : List ℕ) (t : Table) (i : ℕ) where
       (λ a.
       rw a (
         λ e. let w : refusal 13 i ≡ refusal 13 p = cc in ((none_there (rows_of t) i).0 a, (refusal_parts 13 i 13 p w).1),
-        λ w. ap (λ (p : ℕ). row.Refused (refusal 13 p)) (sym w.1),
+        λ w. ap (λ (p : ℕ). Err (refusal 13 p)) (sym w.1),
       ))
       (λ a.
       rw a (
@@ -130,26 +124,26 @@ module _ (file index : List ℕ) (t : Table) (i : ℕ) where
       ))
 
   -- a refusal has a number
-  pub refused_numbered : (q : Refusal) → row_of file index t i ≡ row.Refused q → q.number ≡ 0 → ⊥
+  pub refused_numbered : (q : Refusal) → row_of file index t i ≡ Err q → q.number ≡ 0 → ⊥
   unfolding row_of
   refused_numbered q e =
       let x = row_refusal file t.layout (bound_of t.layout index (pred i)) (bound_of t.layout index i) i in
       bool_cases (no_such_row t i)
-      (λ a. let u : row.Refused (refusal 13 i) ≡ row.Refused q = rw a at e in let v : refusal 13 i ≡ q = cc in λ z.
+      (λ a. let u : ◌≡◌ {A = Row} (Err (refusal 13 i)) (Err q) = rw a at e in let v : refusal 13 i ≡ q = cc in λ z.
       omega (arith, ap (λ (r : Refusal). r.number) v))
       (λ a.
       bool_cases (eqb x.number 0)
       (λ b. let u = rw (a, b) at e in clash (cc))
-      (λ b. let u : row.Refused x ≡ row.Refused q = rw (a, b) at e in let v : x ≡ q = cc in λ z.
+      (λ b. let u : ◌≡◌ {A = Row} (Err x) (Err q) = rw (a, b) at e in let v : x ≡ q = cc in λ z.
       eqb-false x.number 0 b (ap (λ (r : Refusal). r.number) v ∙ z)))
 
-  pub accepted_there : (start end : ℕ) → row_of file index t i ≡ row.Between start end → RowThere t i
+  pub accepted_there : (start end : ℕ) → row_of file index t i ≡ between start end → RowThere t i
   unfolding row_of
   accepted_there start end e = bool_cases (no_such_row t i) (λ a. let u = rw a at e in clash (cc)) (λ a. such (rows_of t) i a)
 
   -- an accepted row lies between its bounds
-  pub accepted_between : (start end : ℕ) → row_of file index t i ≡ row.Between start end
-      → row_of file index t i ≡ row.Between (bound_of t.layout index (pred i)) (bound_of t.layout index i)
+  pub accepted_between : (start end : ℕ) → row_of file index t i ≡ between start end
+      → row_of file index t i ≡ between (bound_of t.layout index (pred i)) (bound_of t.layout index i)
   unfolding row_of
   accepted_between start end e =
       bool_cases (no_such_row t i)
@@ -159,32 +153,21 @@ module _ (file index : List ℕ) (t : Table) (i : ℕ) where
       bool_cases (eqb q.number 0) (λ b. rw (a, b)) (λ b. let u = rw (a, b) at e in clash (cc)))
 
 -- ---- a field that is refused is no triplet
-neither_refused : (b : Bool) (x y : Value) (q : Refusal) → (x ≡ val.Refused q → ⊥) → (y ≡ val.Refused q → ⊥) → cond b x y ≡ val.Refused q → ⊥
-neither_refused true x y q u v = u
-neither_refused false x y q u v = v
-
-read_refused : (x : read.Triplet) (q : Refusal) → triplet_of_read x ≡ val.Refused q → x ≡ read.TheVariants.Refused q
-read_refused (read.TheVariants.Is ids n) q e = clash (cc)
-read_refused (read.TheVariants.Refused r) q e = cc
+read_refused : (x : TripletRead) (q : Refusal) → triplet_of_read x ≡ Err q → x ≡ Err q
+read_refused (Ok t) q e = clash (cc)
+read_refused (Err r) q e = cc
 
 module _ (o : Order) (s : List ℕ) (c : ColumnLayout) (p end : ℕ) (q : Refusal) where
   abbrev Unread : FieldType → Type 0
-  Unread x = (x ≡ type.Triplet) × (triplet_of o (take (end - p) (drop p s)) ≡ read.TheVariants.Refused q)
+  Unread x = (x ≡ type.Triplet) × (triplet_of o (take (end - p) (drop p s)) ≡ Err q)
 
-  type_refused : (x : FieldType) → by_type x o s c p end ≡ val.Refused q → Unread x
+  type_refused : (x : FieldType) → by_type x o s c p end ≡ Err q → Unread x
   type_refused type.Text e = clash (cc)
   type_refused type.Latin e = clash (cc)
-  type_refused type.Float e =
-      let b = number o s p 4 in absurd (neither_refused (float_is_null b) (val.FloatNull b) (val.Float b) q (λ z. clash (cc)) (λ z. clash (cc)) e)
-  type_refused type.Double e =
-      let b = number o s p 8 in absurd (neither_refused (double_is_null b) (val.DoubleNull b) (val.Double b) q
-      (λ z. clash (cc)) (λ z. clash (cc)) e)
-  type_refused type.Short e =
-      let b = number o s p 2 in
-      absurd (neither_refused (short_is_null b) val.ShortNull (val.Short (signed short_half b)) q (λ z. clash (cc)) (λ z. clash (cc)) e)
-  type_refused type.Integer e =
-      let b = number o s p 4 in
-      absurd (neither_refused (integer_is_null b) val.IntegerNull (val.Integer (signed integer_half b)) q (λ z. clash (cc)) (λ z. clash (cc)) e)
+  type_refused type.Float e = clash (cc)
+  type_refused type.Double e = clash (cc)
+  type_refused type.Short e = clash (cc)
+  type_refused type.Integer e = clash (cc)
   type_refused type.ShortPair e = clash (cc)
   type_refused type.ShortTriple e = clash (cc)
   type_refused type.DoublePair e = clash (cc)
@@ -193,7 +176,7 @@ module _ (o : Order) (s : List ℕ) (c : ColumnLayout) (p end : ℕ) (q : Refusa
   type_refused type.NullField e = clash (cc)
   type_refused type.Triplet e = (refl, read_refused (triplet_of o (take (end - p) (drop p s))) q e)
 
-  pub shown_refused : (shown o s c p end ≡ val.Refused q) ↔ Unread c.kind
+  pub shown_refused : (shown o s c p end ≡ Err q) ↔ Unread c.kind
   unfolding shown
   shown_refused = (
     type_refused c.kind,
@@ -217,24 +200,26 @@ module _ (file index : List ℕ) (t : Table) (i k : ℕ) where
     abbrev q : Refusal
     q = refusal n p
 
-    refused_parts : (a b : ℕ) → val.Refused (refusal a b) ≡ val.Refused q → (n ≡ a) × (p ≡ b)
+    refused_parts : (a b : ℕ) → ◌≡◌ {A = ValueRead} (Err (refusal a b)) (Err q) → (n ≡ a) × (p ≡ b)
     refused_parts a b e = let w : refusal a b ≡ q = cc in refusal_parts a b n p w
 
-    no_row : (RowThere t i → ⊥) → value_of file index t i k ≡ val.Refused (refusal 13 i)
+    no_row : (RowThere t i → ⊥) → value_of file index t i k ≡ Err (refusal 13 i)
     unfolding value_of
     no_row f = rw ((none_there (rows_of t) i).1 f)
 
-    no_column : RowThere t i → (ColumnThere t k → ⊥) → value_of file index t i k ≡ val.Refused (refusal 13 k)
+    no_column : RowThere t i → (ColumnThere t k → ⊥) → value_of file index t i k ≡ Err (refusal 13 k)
     unfolding value_of
     no_column a f = rw (there (rows_of t) i a, (none_there (columns_of l) k).1 f)
 
-    same_refusal : (a b : ℕ) → n ≡ a → p ≡ b → val.Refused (refusal a b) ≡ val.Refused q
-    same_refusal a b u v = ap val.Refused (parts_refusal a b n p u v)
+    same_refusal : (a b : ℕ) → n ≡ a → p ≡ b → ◌≡◌ {A = ValueRead} (Err (refusal a b)) (Err q)
+    same_refusal a b u v = ap Err (parts_refusal a b n p u v)
 
-    by_row : (x : Row) → row_of file index t i ≡ x → RowThere t i → ColumnThere t k → in_row x (field_in file l k) ≡ val.Refused q
+    by_row : (x : Row) → row_of file index t i ≡ x → RowThere t i → ColumnThere t k → in_row x (field_in file l k) ≡ Err q
         → RowBad file index t i k n p ⊎ NoTriplet file index t i k n p
-    by_row (row.Refused r) u a b e = let w : r ≡ q = cc in inl (a, b, u ∙ ap row.Refused w)
-    by_row (row.Between start end) u a b e =
+    by_row (Err r) u a b e = let w : r ≡ q = cc in inl (a, b, u ∙ ap Err w)
+    by_row (Ok lies) u a b e =
+        let start = lies.start in
+        let end = lies.end in
         let at = column_place file l start end k in
         let w = (shown_refused l.order file column at end q).0 e in
         let z = (refused-exactly l.order (take (end - at) (drop at file)) q).0 w.1 in
@@ -250,7 +235,7 @@ module _ (file index : List ℕ) (t : Table) (i k : ℕ) where
         })
 
     -- A VALUE IS REFUSED WITH n AT p EXACTLY WHEN it is in words
-    pub value_refused_exactly : (value_of file index t i k ≡ val.Refused q) ↔ ValueRefused file index t i k n p
+    pub value_refused_exactly : (value_of file index t i k ≡ Err q) ↔ ValueRefused file index t i k n p
     value_refused_exactly = (
       λ e.
           bool_cases (no_such_row t i)
@@ -284,7 +269,7 @@ module _ (file index : List ℕ) (t : Table) (i k : ℕ) where
 
   -- A VALUE IS REFUSED WITH 13 EXACTLY WHEN there is no such row (its number), or else no such column (its number)
   pub value_13_exactly : (p : ℕ)
-      → (value_of file index t i k ≡ val.Refused (refusal 13 p)) ↔
+      → (value_of file index t i k ≡ Err (refusal 13 p)) ↔
       (((RowThere t i → ⊥) × (p ≡ i)) ⊎ (RowThere t i × (ColumnThere t k → ⊥) × (p ≡ k)))
   value_13_exactly p =
       let w = value_refused_exactly 13 p in (
@@ -311,7 +296,7 @@ module _ (file index : List ℕ) (most : ℕ) (h : Reading) (n : ℕ) (o : Opens
   past_end = bound_of layout index i
 
   not_unread : (at p : ℕ) (q : Refusal) → FieldEnds layout.order file past_end (layout_at layout k) at p
-      → shown layout.order file (layout_at layout k) at past_end ≡ val.Refused q → ⊥
+      → shown layout.order file (layout_at layout k) at past_end ≡ Err q → ⊥
   not_unread at p q f e =
       let w = (shown_refused layout.order file (layout_at layout k) at past_end q).0 e in
       ⊎_elim
@@ -324,13 +309,13 @@ module _ (file index : List ℕ) (most : ℕ) (h : Reading) (n : ℕ) (o : Opens
 
   -- A VALUE OF A RIGHT ROW IS NOT REFUSED
   pub right_value : (r : In n i) → RowRight file layout first_byte past_end i → In layout.columns k → (q : Refusal)
-      → value_of file index opened i k ≡ val.Refused q → ⊥
+      → value_of file index opened i k ≡ Err q → ⊥
   right_value r right c q e =
       not_unread _ _ q (field_there file index most h n o i r right k c) (sym (value-shown file index most h n o i r right k c) ∙ e)
 
   -- SO OF AN OPENED TABLE a value is refused where there is no such row, no such column, or the row is refused, and nowhere else
   pub opened_value_refused_exactly : (m p : ℕ)
-      → (value_of file index opened i k ≡ val.Refused (refusal m p)) ↔
+      → (value_of file index opened i k ≡ Err (refusal m p)) ↔
       (NoRow opened i m p ⊎ (NoColumn opened i k m p ⊎ RowBad file index opened i k m p))
   opened_value_refused_exactly m p =
       let w = value_refused_exactly file index opened i k m p in (
@@ -338,7 +323,7 @@ module _ (file index : List ℕ) (most : ℕ) (h : Reading) (n : ℕ) (o : Opens
         ⊎_elim (λ x. w.1 (inl x)) (⊎_elim (λ x. w.1 (inr (inl x))) (λ x. w.1 (inr (inr (inl x))))),
       )
     where
-      never : NoTriplet file index opened i k m p → value_of file index opened i k ≡ val.Refused (refusal m p) → ⊥
+      never : NoTriplet file index opened i k m p → value_of file index opened i k ≡ Err (refusal m p) → ⊥
       never x e =
           let a = accepted_there file index opened i x.start x.end x.accepted in
           let r : In n i = (a.0, omega (arith, a.1)) in

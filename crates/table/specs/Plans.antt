@@ -1,6 +1,6 @@
 -- A row walked, and where it lies, by plain numbers, which are taken from the layout once for all rows. That the walk comes as far as the
 -- layout says is proved in PlanLaws.
-use Rattle.std.specs.Prelude.{cond, List, ℕ, zero, suc, min, ◌+◌, ◌-◌, ◌*◌, eqb, leb, get_or, set, replicate}
+use Rattle.std.specs.Prelude.{cond, List, ℕ, zero, suc, min, ◌+◌, ◌-◌, ◌*◌, eqb, leb, get_or, set, replicate, Option, Some, None, Ok, Err}
 use Rattle.laws.specs.Buffer.{front}
 use Rattle.number.specs.declared.Order.{Order}
 use Rattle.field.specs.Fields.{width_of, is_triplet}
@@ -9,9 +9,9 @@ use Rattle.header.specs.declared.Layout.{Layout}
 use Rattle.header.specs.Layouts.{fixed_bytes}
 use Rattle.limits.specs.Limits.{most_columns}
 use Rattle.opening.specs.Opening.{entry_end}
-use Rattle.table.specs.declared.Reach.{Reach}
-use Rattle.table.specs.declared.Reach.TheVariants.{At, Short, Cut}
-use Rattle.table.specs.Rows.{columns_of, column_at, outside, plain_end, star_end, triplet_end, onward}
+use Rattle.table.specs.declared.Unreached.TheVariants.{Short}
+use Rattle.table.specs.declared.rows.Rows.{Rows}
+use Rattle.table.specs.Rows.{columns_of, column_at, no_such_column, outside, Reach, plain_end, star_end, triplet_end, onward}
 
 -- ---- where rows lie
 
@@ -45,6 +45,25 @@ code_at l k = code_of (column_at l (suc k))
 unfoldable pub plan_of : Layout → List ℕ
 plan_of l = front (code_at l) (columns_of l) (replicate most_columns 0)
 
+-- ---- what is taken of a layout once for all rows
+
+-- where the id column starts in a row of one width, if there is one
+unfoldable pub id_offset : Layout → Option ℕ
+id_offset l = cond (no_such_column l l.id) None (Some (column_at l l.id).offset)
+
+-- THE ROWS of a layout, by plain numbers: only rows with an index need the plan of a walk
+abbrev pub rows_by : Layout → Rows
+rows_by l =
+    record {
+      order = l.order;
+      first = l.start;
+      width = l.width;
+      columns = columns_of l;
+      id = l.id;
+      offset = id_offset l;
+      plan = cond (eqb l.width 0) (plan_of l) (replicate most_columns 0);
+    }
+
 -- ---- the walk over a row
 
 -- the field of a code that starts at the place `at` of a row that ends at `end`
@@ -55,15 +74,14 @@ code_end o s end code at =
 
 -- past the columns 1..n of a row: each starts where the last ended
 abbrev pub plan_reach : Order → List ℕ → List ℕ → ℕ → ℕ → ℕ → Reach
-plan_reach o s plan start end zero = At start
+plan_reach o s plan start end zero = Ok start
 plan_reach o s plan start end (suc n) = onward (plan_reach o s plan start end n) (λ p. code_end o s end (get_or plan n 0) p)
 
 -- where each of the columns 1..n starts that a walk came to, column k's at k - 1; `r k` says how far it came past the columns 1..k, and
 -- the other places stay
 abbrev pub keep : List ℕ → ℕ → Reach → List ℕ
-keep places k (At p) = set places k p
-keep places k Short = places
-keep places k (Cut q) = places
+keep places k (Ok p) = set places k p
+keep places k (Err e) = places
 
 abbrev pub places_left : (ℕ → Reach) → ℕ → List ℕ → List ℕ
 places_left r zero old = old
@@ -72,7 +90,7 @@ places_left r (suc n) old = keep (places_left r n old) n (r n)
 -- THE WALK past the columns 1..n, as far as the limit, from a start, and at most to a bound: how far it comes, and the places that it
 -- leaves. Of a row outside the file, nothing
 unfoldable pub walk_of : Order → List ℕ → List ℕ → ℕ → ℕ → ℕ → Reach
-walk_of o s plan n start bound = cond (outside s start bound) Short (plan_reach o s plan start bound (min n most_columns))
+walk_of o s plan n start bound = cond (outside s start bound) (Err Short) (plan_reach o s plan start bound (min n most_columns))
 
 unfoldable pub places_after : Order → List ℕ → List ℕ → ℕ → ℕ → ℕ → List ℕ → List ℕ
 places_after o s plan n start bound old = cond (outside s start bound) old (places_left (plan_reach o s plan start bound) (min n most_columns) old)

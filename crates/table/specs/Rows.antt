@@ -1,22 +1,19 @@
 -- Rows: where row i lies, its fields one column after the other, and its judgement.
-use Rattle.std.specs.Prelude.{Bool, true, cond, not, List, ℕ, zero, suc, pred, min, ◌+◌, ◌-◌, ◌*◌, eqb, ltb, leb, length, get_or, take, drop}
+use Rattle.std.specs.Prelude.{Bool, true, cond, not, List, ℕ, zero, suc, pred, min, ◌+◌, ◌-◌, ◌*◌, eqb, ltb, leb, length, get_or, take, drop, Result, Ok, Err}
 use Rattle.refusal.specs.declared.Refusal.{Refusal}
 use Rattle.refusal.specs.Order.{refusal, refused_if, first, lowest_of}
 use Rattle.number.specs.declared.Order.{Order}
 use Rattle.number.specs.Bytes.{number}
 use Rattle.field.specs.Fields.{width_of, is_triplet}
-use Rattle.triplet.specs.declared.Triplet.{Triplet}
-use Rattle.triplet.specs.declared.Triplet.TheVariants as triplet
-use Rattle.triplet.specs.Triplet.{triplet_of}
+use Rattle.triplet.specs.Triplet.{Reading, triplet_of}
 use Rattle.header.specs.declared.Layout.{Layout}
 use Rattle.header.specs.declared.ColumnLayout.{ColumnLayout}
+use Rattle.header.specs.declared.Span.{Span}
 use Rattle.limits.specs.Limits.{most_columns, most_rows}
 use Rattle.header.specs.Layouts.{blank_column, fixed_bytes}
 use Rattle.opening.specs.declared.Table.{Table}
-use Rattle.table.specs.declared.Reach.{Reach}
-use Rattle.table.specs.declared.Reach.TheVariants.{At, Short, Cut}
-use Rattle.table.specs.declared.Row.{Row}
-use Rattle.table.specs.declared.Row.TheVariants.{Between, Refused}
+use Rattle.table.specs.declared.Unreached.{Unreached}
+use Rattle.table.specs.declared.Unreached.TheVariants.{Short, BadTriplet}
 use Rattle.opening.specs.Opening.{needs_index, end_at}
 
 -- rows and columns that a table has, whoever made it
@@ -50,17 +47,21 @@ outside s start end = cond (ltb (length s) end) true (ltb end start)
 
 -- ---- fields
 
+-- where a field ends, or why it ends nowhere in the row: the row is too short for it, or it is a bad triplet, and where
+abbrev pub Reach : Type 0
+Reach = Result ℕ Unreached
+
 -- so many bytes
 unfoldable pub plain_end : ℕ → ℕ → ℕ → Reach
-plain_end at end need = cond (leb need (end - at)) (At (at + need)) Short
+plain_end at end need = cond (leb need (end - at)) (Ok (at + need)) (Err Short)
 
 -- "A `*` field begins with an unsigned four-byte count of its elements; zero is allowed."
 unfoldable pub star_end : Order → List ℕ → ℕ → ℕ → ℕ → Reach
-star_end o s at end width = cond (ltb (end - at) 4) Short (plain_end (at + 4) end (number o s at 4 * width))
+star_end o s at end width = cond (ltb (end - at) 4) (Err Short) (plain_end (at + 4) end (number o s at 4 * width))
 
-abbrev pub past_triplet : ℕ → Triplet → Reach
-past_triplet at (triplet.Is ids n) = At (at + n)
-past_triplet at (triplet.Refused q) = Cut q.place
+abbrev pub past_triplet : ℕ → Reading → Reach
+past_triplet at (Ok t) = Ok (at + t.bytes)
+past_triplet at (Err q) = Err (BadTriplet q.place)
 
 unfoldable pub triplet_end : Order → List ℕ → ℕ → ℕ → Reach
 triplet_end o s at end = past_triplet at (triplet_of o (take (end - at) (drop at s)))
@@ -72,20 +73,18 @@ field_end o s end c at =
     (cond c.star (star_end o s at end (width_of c.kind)) (plain_end at end (fixed_bytes c)))
 
 abbrev pub onward : Reach → (ℕ → Reach) → Reach
-onward (At p) f = f p
-onward Short f = Short
-onward (Cut q) f = Cut q
+onward (Ok p) f = f p
+onward (Err e) f = Err e
 
 -- past the columns 1..n of a row: each starts where the last ended
 abbrev pub reach : List ℕ → Layout → ℕ → ℕ → ℕ → Reach
-reach s l start end zero = At start
+reach s l start end zero = Ok start
 reach s l start end (suc n) = onward (reach s l start end n) (λ p. field_end l.order s end (column_at l (suc n)) p)
 
 -- where column k starts, 0 where the walk stopped before it
 abbrev pub place_of : Reach → ℕ
-place_of (At p) = p
-place_of Short = 0
-place_of (Cut q) = 0
+place_of (Ok p) = p
+place_of (Err e) = 0
 
 abbrev pub place_of_column : List ℕ → Layout → ℕ → ℕ → ℕ → ℕ
 place_of_column s l start end k = place_of (reach s l start end (pred k))
@@ -105,9 +104,9 @@ id_refusal s l p i = id_judged l.order s p i
 
 -- "Within a row, 10 and 11 by column order (a cut triplet is 11), then 9"; 10 too where the row is not used up
 abbrev pub used_up : Reach → ℕ → ℕ → Refusal → Refusal
-used_up (At p) end i rest = cond (eqb p end) rest (refusal 10 i)
-used_up Short end i rest = refusal 10 i
-used_up (Cut q) end i rest = refusal 11 q
+used_up (Ok p) end i rest = cond (eqb p end) rest (refusal 10 i)
+used_up (Err Short) end i rest = refusal 10 i
+used_up (Err (BadTriplet q)) end i rest = refusal 11 q
 
 -- where column k starts in the row: by its offset where all rows have one width (within the row in any case), else past the fields
 -- before it
@@ -135,14 +134,21 @@ place_refusal s l start end i = place_judged s (no_such_column l l.id) start end
 unfoldable pub row_refusal : List ℕ → Layout → ℕ → ℕ → ℕ → Refusal
 row_refusal s l start end i = first (place_refusal s l start end i) (fields_refusal s l start end i)
 
+-- where a row lies, or its refusal
+abbrev pub Row : Type 0
+Row = Result Span Refusal
+
+abbrev pub between : ℕ → ℕ → Row
+between start end = Ok (record { start = start; end = end })
+
 -- where the row lies, unless it is refused
 abbrev pub unless_refused : Refusal → ℕ → ℕ → Row
-unless_refused q start end = cond (eqb q.number 0) (Between start end) (Refused q)
+unless_refused q start end = cond (eqb q.number 0) (between start end) (Err q)
 
 -- THE ROW i of a table: where it lies, or its refusal
 unfoldable pub row_of : List ℕ → List ℕ → Table → ℕ → Row
 row_of file index t i =
-    cond (no_such_row t i) (Refused (refusal 13 i))
+    cond (no_such_row t i) (Err (refusal 13 i))
     (unless_refused (row_refusal file t.layout (bound_of t.layout index (pred i)) (bound_of t.layout index i) i)
     (bound_of t.layout index (pred i)) (bound_of t.layout index i))
 

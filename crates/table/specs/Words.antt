@@ -1,5 +1,5 @@
 -- "Rows and index" in the paper's words: when a row is right, when it is refused, and which bytes a value depends on.
-use Rattle.std.specs.Prelude.{◌≡◌, ◌⊎◌, true, false, List, ℕ, suc, pred, ◌+◌, ◌-◌, ◌*◌, ◌≤◌, length, take, drop}
+use Rattle.std.specs.Prelude.{◌≡◌, ◌⊎◌, true, false, List, ℕ, suc, pred, ◌+◌, ◌-◌, ◌*◌, ◌≤◌, length, take, drop, Ok, Err}
 use Rattle.laws.specs.Lowest.{In, Each}
 use Rattle.refusal.specs.Order.{refusal}
 use Rattle.number.specs.declared.Order.{Order}
@@ -13,11 +13,11 @@ use Rattle.header.specs.declared.Layout.{Layout}
 use Rattle.header.specs.LayoutWords.{layout_at}
 use Rattle.opening.specs.declared.Table.{Table}
 use Rattle.opening.specs.Opening.{offset_at, length_at}
-use Rattle.opening.specs.Words.{layout_of, HasOneWidth, NeedsIndex}
-use Rattle.table.specs.declared.Row.TheVariants as row
-use Rattle.table.specs.declared.Value.{Value}
+use Rattle.header.specs.Layouts.{layout_of}
+use Rattle.opening.specs.Words.{HasOneWidth, NeedsIndex}
 use Rattle.table.specs.declared.Value.TheVariants as value
-use Rattle.table.specs.Rows.{rows_of, columns_of, column_at, column_place, row_of}
+use Rattle.table.specs.Rows.{rows_of, columns_of, column_at, column_place, between, row_of}
+use Rattle.table.specs.Values.{ValueRead}
 
 -- ---- where row i lies
 
@@ -135,21 +135,19 @@ pub record SameRow (s t : List ℕ) (start end : ℕ) : Type 0 where
   pub same : take (end - start) (drop start s) ≡ take (end - start) (drop start t)
 
 -- "Text and date are shown as parts of the caller's file": the part that a value shows lies from start to end
-abbrev pub PartInside : ℕ → ℕ → Value → Type 0
-PartInside start end (value.Text p n) = (start ≤ p) × (p + n ≤ end)
-PartInside start end (value.Date p n) = (start ≤ p) × (p + n ≤ end)
-PartInside start end (value.Coordinates p n) = (start ≤ p) × (p + n ≤ end)
-PartInside start end (value.Short v) = Unit {0}
-PartInside start end value.ShortNull = Unit {0}
-PartInside start end (value.Integer v) = Unit {0}
-PartInside start end value.IntegerNull = Unit {0}
-PartInside start end (value.Float b) = Unit {0}
-PartInside start end (value.FloatNull b) = Unit {0}
-PartInside start end (value.Double b) = Unit {0}
-PartInside start end (value.DoubleNull b) = Unit {0}
-PartInside start end (value.Triplet ids) = Unit {0}
-PartInside start end value.Empty = Unit {0}
-PartInside start end (value.Refused q) = Unit {0}
+abbrev pub PartInside : ℕ → ℕ → ValueRead → Type 0
+PartInside start end (Ok (value.Text e)) = (start ≤ e.start) × (e.start + e.bytes ≤ end)
+PartInside start end (Ok (value.Date e)) = (start ≤ e.start) × (e.start + e.bytes ≤ end)
+PartInside start end (Ok (value.Coordinates e)) = (start ≤ e.start) × (e.start + e.bytes ≤ end)
+PartInside start end (Ok (value.Short v)) = Unit {0}
+PartInside start end (Ok (value.Integer v)) = Unit {0}
+PartInside start end (Ok (value.Float b)) = Unit {0}
+PartInside start end (Ok (value.FloatNull b)) = Unit {0}
+PartInside start end (Ok (value.Double b)) = Unit {0}
+PartInside start end (Ok (value.DoubleNull b)) = Unit {0}
+PartInside start end (Ok (value.Triplet ids)) = Unit {0}
+PartInside start end (Ok value.Empty) = Unit {0}
+PartInside start end (Err q) = Unit {0}
 
 -- ---- when a value is refused: over any table, opened or made by anybody
 
@@ -169,7 +167,7 @@ NoColumn t i k n p = RowThere t i × (ColumnThere t k → ⊥) × (n ≡ 13) × 
 
 -- then the row's own refusal
 abbrev pub RowBad : List ℕ → List ℕ → Table → ℕ → ℕ → ℕ → ℕ → Type 0
-RowBad file index t i k n p = RowThere t i × ColumnThere t k × (row_of file index t i ≡ row.Refused (refusal n p))
+RowBad file index t i k n p = RowThere t i × ColumnThere t k × (row_of file index t i ≡ Err (refusal n p))
 
 -- last, in a row that is accepted, a field of type K that is no triplet. Such a row is walked, and so has none: it can only be where
 -- somebody made a table of one width with a column of type K, which no header gives
@@ -177,7 +175,7 @@ pub record NoTriplet (file index : List ℕ) (t : Table) (i k n p : ℕ) : Type 
   pub column : ColumnThere t k
   pub start : ℕ
   pub end : ℕ
-  pub accepted : row_of file index t i ≡ row.Between start end
+  pub accepted : row_of file index t i ≡ between start end
   pub kind : (column_at t.layout k).kind ≡ Triplet
   pub number_11 : n ≡ 11
   pub bad : let at = column_place file t.layout start end k in BadAt t.layout.order (take (end - at) (drop at file)) p

@@ -3,182 +3,165 @@
 
 pub mod rows;
 
-ghost use Rattle.std.specs.Prelude.{◌≡◌, false, min, ◌+◌, ◌-◌, ◌*◌, ◌≤◌, ◌<◌, length, take, drop};
+ghost use Rattle.std.specs.Prelude.{◌≡◌, min, ◌+◌, ◌-◌, ◌≤◌, ◌<◌, length, take, drop, Ok};
 ghost use Rattle.field.specs.Fields.{widest};
-ghost use Rattle.triplet.specs.Triplet.{triplet_of};
 ghost use Rattle.limits.specs.Limits.{most_columns, most_rows};
-ghost use Rattle.field.specs.Nulls.{short_half, integer_half, signed};
-ghost use Rattle.table.specs.Rows.{columns_of, no_such, no_such_column, outside, bound_of, plain_end, star_end, triplet_end};
-ghost use Rattle.table.specs.Rows.{id_judged, used_up, row_refusal, unless_refused, row_of};
-ghost use Rattle.table.specs.Plans.{fixed_bound};
-ghost use Rattle.table.specs.Serving.RowPlans.{place_by};
-ghost use Rattle.table.specs.Values.{short_of, integer_of, float_of, double_of, elements_start, elements_bytes, triplet_of_read, shown, in_row, field_in, value_of};
+ghost use Rattle.refusal.specs.Order.{answered, fine};
+ghost use Rattle.table.specs.Rows.{columns_of, no_such, no_such_column, outside, plain_end, star_end, triplet_end};
+ghost use Rattle.table.specs.Rows.{id_judged, used_up, row_of};
+ghost use Rattle.table.specs.Values.{short_of, integer_of, float_of, double_of, elements, shown, value_of};
 ghost use Rattle.table.specs.Values.{extent_of, part_of};
 
 use field::FieldType;
-use header::{ColumnLayout, Layout};
+use header::{ColumnLayout, Layout, Span};
 use limits::{MOST_COLUMNS, MOST_ROWS};
 use number::Order;
 use opening::Table;
-use refusal::{BAD_TRIPLET, NO_SUCH, Refusal, WRONG_ID, WRONG_ROW};
-use triplet::{Ids, Triplet};
+use refusal::{Kind, Refusal};
+use triplet::Ids;
 
-// Where a field ends; or the row is too short for it (10); or it is a bad triplet, and where (11).
-#[derive(Clone, Copy)]
-pub enum Reach {
-    At(usize),
+// Why a field ends nowhere in its row: the row is too short for it, or it is a bad triplet, and where.
+#[derive(Clone, Copy, Debug, PartialEq, Eq)]
+pub enum Unreached {
     Short,
-    Cut(usize),
+    BadTriplet(usize),
 }
 
 // A part of a file: where it starts, and how many bytes it has.
 #[derive(Clone, Copy)]
-struct Extent {
-    start: usize,
-    bytes: usize,
+pub struct Extent {
+    pub start: usize,
+    pub bytes: usize,
 }
 
-#[derive(Clone, Copy)]
-pub enum Row {
-    Between(usize, usize),
-    Refused(Refusal),
-}
-
-// A value by its type. Text, a date and coordinates are a part of the caller's file: where it starts and how many bytes it has.
+// A value by its type; an integer that is null has none. Text, a date and coordinates are a part of the caller's file.
 #[derive(Clone, Copy)]
 pub enum Value {
-    Short(i16),
-    ShortNull,
-    Integer(i32),
-    IntegerNull,
+    Short(Option<i16>),
+    Integer(Option<i32>),
+
+    // A float's pattern. Many patterns are null, and each is shown as it stands: an `Option` would lose it.
     Float(u32),
     FloatNull(u32),
     Double(u64),
     DoubleNull(u64),
     Triplet(Ids),
-    Text(usize, usize),
-    Date(usize, usize),
-    Coordinates(usize, usize),
+    Text(Extent),
+    Date(Extent),
+    Coordinates(Extent),
     Empty,
-    Refused(Refusal),
 }
 
 // ---- fields
-
-// The lesser of two.
-fn lesser(a: usize, b: usize) -> usize
-    ensures { result ≡ min a b }
-{
-    if a <= b { a } else { b }
-}
 
 // Whether k is none of 1..n.
 fn no_such(n: usize, k: usize) -> bool
     ensures { result ≡ no_such n k }
 {
-    if k == 0 {
-        return true;
-    }
-    n < k
+    k == 0 || n < k
 }
 
 // Whether a row ends past the file or before it starts.
-fn lies_outside(file: &[u8], start: usize, end: usize) -> bool
-    ensures { result ≡ outside file.now start end }
+fn lies_outside(file: &[u8], lies: Span) -> bool
+    ensures { result ≡ outside file.now lies.start lies.end }
 {
-    if file.len() < end {
-        return true;
-    }
-    end < start
+    file.len() < lies.end || lies.end < lies.start
 }
 
 // A field of so many bytes.
-fn plain_end(at: usize, end: usize, need: usize) -> Reach
+#[tactic(auto, unfolding(crate::specs::Rows::plain_end))]
+fn plain_end(at: usize, end: usize, need: usize) -> Result<usize, Unreached>
     requires { at ≤ end }
     ensures { result ≡ plain_end at end need }
 {
     if need <= end - at {
-        Reach::At(at + need)
+        Ok(at + need)
     } else {
-        Reach::Short
+        Err(Unreached::Short)
     }
 }
 
 // A `*` field: a count of four bytes, then so many elements.
-fn star_end(file: &[u8], at: usize, end: usize, width: usize, order: Order) -> Reach
+#[tactic(auto, unfolding(crate::specs::Rows::star_end))]
+fn star_end(
+    file: &[u8],
+    at: usize,
+    end: usize,
+    width: usize,
+    order: Order,
+) -> Result<usize, Unreached>
     requires { (at ≤ end) × (width ≤ widest) }
     ensures { result ≡ star_end order file.now at end width }
 {
     if end - at < 4 {
-        return Reach::Short;
+        return Err(Unreached::Short);
     }
-    let n = number::read4(file, at, order);
+    let n = number::read::<u32>(file, at, order);
     plain_end(at + 4, end, n as usize * width)
 }
 
 // A triplet, which says its own length.
-fn triplet_end(file: &[u8], at: usize, end: usize, order: Order) -> Reach
+#[tactic(auto, unfolding(crate::specs::Rows::triplet_end))]
+fn triplet_end(file: &[u8], at: usize, end: usize, order: Order) -> Result<usize, Unreached>
     requires { (at ≤ end) × (end ≤ length file.now) }
     ensures { result ≡ triplet_end order file.now at end }
 {
     match triplet::read(&file[at..end], order) {
-        Triplet::Is(_, n) => Reach::At(at + n),
-        Triplet::Refused(q) => Reach::Cut(q.place),
+        Ok(triplet) => Ok(at + triplet.bytes),
+        Err(refusal) => Err(Unreached::BadTriplet(refusal.place)),
     }
 }
 
 // ---- columns and rows that there are
 
-// The columns that a layout has: those past the limit are not there.
-fn count_columns(layout: Layout) -> usize
-    ensures { result ≡ columns_of layout }
-{
-    limits::columns_within(layout.columns)
-}
-
 // Whether a layout has no column of this number.
 pub fn no_such_column(layout: Layout, column: usize) -> bool
     ensures { result ≡ no_such_column layout column }
 {
-    no_such(count_columns(layout), column)
+    lacks_column(&layout, column)
+}
+
+// The same of a layout that is lent, which has a kilobyte.
+fn lacks_column(layout: &Layout, column: usize) -> bool
+    ensures { result ≡ no_such_column layout.now column }
+{
+    no_such(limits::columns_within(layout.columns), column)
 }
 
 // Whether a table of so many rows has no row of this number: rows past the millionth are not there.
 pub fn no_such_row(rows: usize, row: usize) -> bool
     ensures { result ≡ no_such (min rows most_rows) row }
 {
-    no_such(lesser(rows, MOST_ROWS), row)
+    no_such(rows.min(MOST_ROWS), row)
 }
 
 // ---- the judgement
 
 // 9 where the number at the place of the id is not the row's.
-fn judge_id(file: &[u8], order: Order, place: usize, row: usize) -> Refusal
-    ensures { result ≡ id_judged order file.now place row }
+fn judge_id(file: &[u8], order: Order, place: usize, row: usize) -> Result<(), Refusal>
+    ensures { result ≡ answered (id_judged order file.now place row) }
 {
-    if number::read4(file, place, order) as usize == row {
-        return refusal::no_refusal();
+    if number::read::<u32>(file, place, order) as usize == row {
+        Ok(())
+    } else {
+        Err(Kind::WrongId.at(row))
     }
-    refusal::refuse(WRONG_ID, row)
 }
 
-// 10 for a row too short or not used up, 11 for a bad triplet, else the judgement of its id.
-fn judge_end(reach: Reach, end: usize, row: usize, id: Refusal) -> Refusal
-    ensures { result ≡ used_up reach end row id }
+// 10 for a row too short or not used up, 11 for a bad triplet.
+fn judge_end(reach: Result<usize, Unreached>, end: usize, row: usize) -> Result<(), Refusal>
+    ensures { result ≡ answered (used_up reach end row fine) }
 {
     match reach {
-        Reach::At(p) => {
-            if p == end {
-                return id;
+        Ok(place) => {
+            if place == end {
+                Ok(())
+            } else {
+                Err(Kind::WrongRow.at(row))
             }
-            return refusal::refuse(WRONG_ROW, row);
         }
-        Reach::Short => {
-            return refusal::refuse(WRONG_ROW, row);
-        }
-        Reach::Cut(q) => {
-            return refusal::refuse(BAD_TRIPLET, q);
-        }
+        Err(Unreached::Short) => Err(Kind::WrongRow.at(row)),
+        Err(Unreached::BadTriplet(place)) => Err(Kind::BadTriplet.at(place)),
     }
 }
 
@@ -186,269 +169,175 @@ fn judge_end(reach: Reach, end: usize, row: usize, id: Refusal) -> Refusal
 pub fn place_within(start: usize, end: usize, offset: usize) -> usize
     ensures { result ≡ min (start + offset) end }
 {
-    if end < start {
-        return end;
-    }
-    if offset <= end - start {
-        return start + offset;
-    }
-    end
-}
-
-// ---- where rows lie
-
-// The end of row k where all rows have one width.
-fn fixed_bound(first: u32, width: u32, k: usize) -> usize
-    requires { k ≤ most_rows }
-    ensures { result ≡ fixed_bound first width k }
-{
-    first as usize + width as usize * k
-}
-
-// The end of row k, and the start of row k + 1.
-fn bound_of(index: &[u8], layout: Layout, k: usize) -> usize
-    requires { k ≤ most_rows }
-    ensures { result ≡ bound_of layout index.now k }
-{
-    let order = layout.order;
-    rows::bound_by(index, order, layout.start, layout.width, k)
+    start.saturating_add(offset).min(end)
 }
 
 // Row i of a table, judged: where it lies.
 // Example: of the ring table with 2 rows of 12 from byte 97, row 2 lies from 109 to 121 where its id is 2, and is refused with 9 at 2
 // where it is not; row 3 is refused with 13 at 3.
-pub fn read_row(file: &[u8], index: &[u8], table: Table, row: usize) -> Row
+#[tactic(auto, unfolding(crate::specs::Rows::row_of))]
+pub fn read_row(file: &[u8], index: &[u8], table: Table, row: usize) -> Result<Span, Refusal>
     ensures { result ≡ row_of file.now index.now table row }
 {
     if no_such_row(table.rows, row) {
-        return Row::Refused(refusal::refuse(NO_SUCH, row));
+        return Err(Kind::NoSuch.at(row));
     }
-    let layout = table.layout;
-    let start = bound_of(index, layout, row - 1);
-    let end = bound_of(index, layout, row);
+    let lies = rows::lies(index, &table.layout, row);
     let mut places = [0usize; MOST_COLUMNS];
-    let judged = rows::judge_row(file, layout, start, end, row, &mut places);
-    if judged.number == 0 {
-        return Row::Between(start, end);
-    }
-    Row::Refused(judged)
+    rows::judge_row(file, &table.layout, lies, row, &mut places)?;
+    Ok(lies)
 }
 
 // ---- values
-
-// The numbers of patterns of two and of four bytes, in two's complement.
-fn signed_short(bits: u16) -> i16
-    ensures { result ≡ signed short_half bits }
-{
-    if bits < 0x8000 {
-        return bits as i16;
-    }
-    -1 - (0xffff - bits) as i16
-}
-
-fn signed_integer(bits: u32) -> i32
-    ensures { result ≡ signed integer_half bits }
-{
-    if bits < 0x8000_0000 {
-        return bits as i32;
-    }
-    -1 - (0xffff_ffff - bits) as i32
-}
 
 // A value of each type that has a null, from its bytes.
 fn short_value(bits: u16) -> Value
     ensures { result ≡ short_of bits }
 {
     if field::Short::is_null(bits) {
-        return Value::ShortNull;
+        Value::Short(None)
+    } else {
+        Value::Short(Some(bits.cast_signed()))
     }
-    Value::Short(signed_short(bits))
 }
 
 fn integer_value(bits: u32) -> Value
     ensures { result ≡ integer_of bits }
 {
     if field::Integer::is_null(bits) {
-        return Value::IntegerNull;
+        Value::Integer(None)
+    } else {
+        Value::Integer(Some(bits.cast_signed()))
     }
-    Value::Integer(signed_integer(bits))
 }
 
 fn float_value(bits: u32) -> Value
     ensures { result ≡ float_of bits }
 {
     if field::Float::is_null(bits) {
-        return Value::FloatNull(bits);
+        Value::FloatNull(bits)
+    } else {
+        Value::Float(bits)
     }
-    Value::Float(bits)
 }
 
 fn double_value(bits: u64) -> Value
     ensures { result ≡ double_of bits }
 {
     if field::Double::is_null(bits) {
-        return Value::DoubleNull(bits);
-    }
-    Value::Double(bits)
-}
-
-fn triplet_value(file: &[u8], place: usize, end: usize, order: Order) -> Value
-    requires { (place ≤ end) × (end ≤ length file.now) }
-    ensures { result ≡ triplet_of_read (triplet_of order (take (end - place) (drop place file.now))) }
-{
-    match triplet::read(&file[place..end], order) {
-        Triplet::Is(ids, _) => Value::Triplet(ids),
-        Triplet::Refused(q) => Value::Refused(q),
+        Value::DoubleNull(bits)
+    } else {
+        Value::Double(bits)
     }
 }
 
-// Where the elements of a field start, and how many bytes they have: a `*` field begins with their count.
-fn elements_start(column: ColumnLayout, place: usize, end: usize) -> usize
-    requires { place ≤ end }
-    ensures { result ≡ elements_start column place end }
+// Where the elements of a field lie: a `*` field begins with their count.
+fn elements(file: &[u8], column: ColumnLayout, place: usize, end: usize, order: Order) -> Extent
+    ensures { result ≡ elements order file.now column place end }
 {
     if column.star {
-        if end - place < 4 {
-            return end;
-        }
-        return place + 4;
-    }
-    place
-}
-
-fn elements_bytes(file: &[u8], column: ColumnLayout, place: usize, order: Order) -> usize
-    ensures { result ≡ elements_bytes order file.now column place }
-{
-    if column.star {
+        let n = number::read::<u32>(file, place, order);
         let kind = column.kind;
-        return number::read4(file, place, order) as usize * kind.width();
+        return Extent {
+            start: place_within(place, end, 4),
+            bytes: n as usize * kind.width(),
+        };
     }
-    header::fixed_bytes(column) as usize
+    Extent {
+        start: place,
+        bytes: header::fixed_bytes(column) as usize,
+    }
 }
 
 // The value of the field at a place, by its column's type.
-fn show(file: &[u8], column: ColumnLayout, place: usize, end: usize, order: Order) -> Value
+#[tactic(auto, unfolding(crate::specs::Values::shown))]
+fn show(
+    file: &[u8],
+    column: ColumnLayout,
+    place: usize,
+    end: usize,
+    order: Order,
+) -> Result<Value, Refusal>
     requires { (place ≤ end) × (end ≤ length file.now) }
     ensures { result ≡ shown order file.now column place end }
 {
     let kind = column.kind;
-    let start = elements_start(column, place, end);
-    let bytes = elements_bytes(file, column, place, order);
     match kind {
-        FieldType::Text => Value::Text(start, bytes),
-        FieldType::Latin => Value::Text(start, bytes),
-        FieldType::Float => float_value(number::read4(file, place, order)),
-        FieldType::Double => double_value(number::read8(file, place, order)),
-        FieldType::Short => short_value(number::read2(file, place, order)),
-        FieldType::Integer => integer_value(number::read4(file, place, order)),
-        FieldType::ShortPair => Value::Coordinates(start, bytes),
-        FieldType::ShortTriple => Value::Coordinates(start, bytes),
-        FieldType::DoublePair => Value::Coordinates(start, bytes),
-        FieldType::DoubleTriple => Value::Coordinates(start, bytes),
-        FieldType::Date => Value::Date(place, field::Date::WIDTH),
-        FieldType::NullField => Value::Empty,
-        FieldType::Triplet => triplet_value(file, place, end, order),
+        FieldType::Text | FieldType::Latin => {
+            Ok(Value::Text(elements(file, column, place, end, order)))
+        }
+        FieldType::ShortPair
+        | FieldType::ShortTriple
+        | FieldType::DoublePair
+        | FieldType::DoubleTriple => Ok(Value::Coordinates(elements(
+            file, column, place, end, order,
+        ))),
+        FieldType::Float => Ok(float_value(number::read::<u32>(file, place, order))),
+        FieldType::Double => Ok(double_value(number::read::<u64>(file, place, order))),
+        FieldType::Short => Ok(short_value(number::read::<u16>(file, place, order))),
+        FieldType::Integer => Ok(integer_value(number::read::<u32>(file, place, order))),
+        FieldType::Date => Ok(Value::Date(Extent {
+            start: place,
+            bytes: kind.width(),
+        })),
+        FieldType::NullField => Ok(Value::Empty),
+        FieldType::Triplet => {
+            let triplet = triplet::read(&file[place..end], order)?;
+            Ok(Value::Triplet(triplet.ids))
+        }
     }
-}
-
-// Where a column starts in a row that is judged: as the walk kept it, or by its offset where all rows have one width.
-fn column_place(
-    places: &[usize; MOST_COLUMNS],
-    column: usize,
-    width: u32,
-    offset: usize,
-    start: usize,
-    end: usize,
-) -> usize
-    requires { (0 < column) × (column ≤ most_columns) }
-    ensures { result ≡ place_by places.now column width offset start end }
-{
-    if width == 0 {
-        return places[column - 1];
-    }
-    place_within(start, end, offset)
-}
-
-// The value of a column in the row between two places: the row judged first.
-fn value_between(
-    file: &[u8],
-    layout: Layout,
-    start: usize,
-    end: usize,
-    row: usize,
-    column: usize,
-) -> Value
-    requires { no_such_column layout column ≡ false }
-    ensures { result ≡ in_row (unless_refused (row_refusal file.now layout start end row) start end) (field_in file.now layout column) }
-{
-    let mut places = [0usize; MOST_COLUMNS];
-    let judged = rows::judge_row(file, layout, start, end, row, &mut places);
-    if judged.number != 0 {
-        return Value::Refused(judged);
-    }
-    let c = layout.cols[column - 1];
-    let place = column_place(&places, column, layout.width, c.offset as usize, start, end);
-    let order = layout.order;
-    show(file, c, place, end, order)
 }
 
 // The value of a column in row i: 13 for the row, 13 for the column, the row's own refusals, then the value.
-pub fn read_value(file: &[u8], index: &[u8], table: Table, row: usize, column: usize) -> Value
+#[tactic(auto, unfolding(crate::specs::Values::value_of))]
+pub fn read_value(
+    file: &[u8],
+    index: &[u8],
+    table: Table,
+    row: usize,
+    column: usize,
+) -> Result<Value, Refusal>
     ensures { result ≡ value_of file.now index.now table row column }
 {
     if no_such_row(table.rows, row) {
-        return Value::Refused(refusal::refuse(NO_SUCH, row));
+        return Err(Kind::NoSuch.at(row));
     }
-    let layout = table.layout;
-    if no_such(count_columns(layout), column) {
-        return Value::Refused(refusal::refuse(NO_SUCH, column));
+    let layout = &table.layout;
+    if lacks_column(layout, column) {
+        return Err(Kind::NoSuch.at(column));
     }
-    let start = bound_of(index, layout, row - 1);
-    let end = bound_of(index, layout, row);
-    value_between(file, layout, start, end, row, column)
+    let lies = rows::lies(index, layout, row);
+    let mut places = [0usize; MOST_COLUMNS];
+    rows::judge_row(file, layout, lies, row, &mut places)?;
+    let c = layout.cols[column - 1];
+    let place = rows::place(&places, column, layout.width, c.offset as usize, lies);
+    show(file, c, place, lies.end, layout.order)
 }
 
 // ---- parts shown
 
 // A part of what is lent, cut where it ends.
-fn part<'a>(file: &'a [u8], start: usize, bytes: usize) -> &'a [u8]
-    ensures { result.now ≡ take bytes (drop start file.now) }
+fn part<'a>(file: &'a [u8], extent: Extent) -> &'a [u8]
+    ensures { result.now ≡ take extent.bytes (drop extent.start file.now) }
 {
-    if file.len() <= start {
-        return &file[0..0];
-    }
-    if file.len() - start < bytes {
-        return &file[start..file.len()];
-    }
-    &file[start..start + bytes]
+    let rest = &file[extent.start.min(file.len())..];
+    &rest[..extent.bytes.min(rest.len())]
 }
 
-// Where the part starts that a value shows, and how many bytes it has: none of a value that shows none.
+// The part that a value shows: no bytes of one that shows none.
 fn extent_of(shown: Value) -> Extent
     ensures { result ≡ extent_of shown }
 {
     match shown {
-        Value::Text(p, n) => Extent { start: p, bytes: n },
-        Value::Date(p, n) => Extent { start: p, bytes: n },
-        Value::Coordinates(p, n) => Extent { start: p, bytes: n },
-        Value::Short(_) => Extent { start: 0, bytes: 0 },
-        Value::ShortNull => Extent { start: 0, bytes: 0 },
-        Value::Integer(_) => Extent { start: 0, bytes: 0 },
-        Value::IntegerNull => Extent { start: 0, bytes: 0 },
-        Value::Float(_) => Extent { start: 0, bytes: 0 },
-        Value::FloatNull(_) => Extent { start: 0, bytes: 0 },
-        Value::Double(_) => Extent { start: 0, bytes: 0 },
-        Value::DoubleNull(_) => Extent { start: 0, bytes: 0 },
-        Value::Triplet(_) => Extent { start: 0, bytes: 0 },
-        Value::Empty => Extent { start: 0, bytes: 0 },
-        Value::Refused(_) => Extent { start: 0, bytes: 0 },
+        Value::Text(extent) | Value::Date(extent) | Value::Coordinates(extent) => extent,
+        _ => Extent { start: 0, bytes: 0 },
     }
 }
 
 // "Text and date are shown as parts of the caller's file, not copied."
+#[tactic(auto, unfolding(crate::specs::Values::part_of))]
 pub fn part_of<'a>(file: &'a [u8], shown: Value) -> &'a [u8]
-    ensures { result.now ≡ part_of file.now shown }
+    ensures { result.now ≡ part_of file.now (Ok shown) }
 {
-    let extent = extent_of(shown);
-    part(file, extent.start, extent.bytes)
+    part(file, extent_of(shown))
 }

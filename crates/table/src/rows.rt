@@ -1,18 +1,32 @@
 // The rows of a table by plain numbers, which are taken of the layout once for all rows, so that a row costs its own bytes and no copy
 // of the layout: walked past column after column, and judged lowest first.
-ghost use Rattle.std.specs.Prelude.{◌≡◌, min, ◌≤◌, ◌<◌, length};
-ghost use Rattle.refusal.specs.Order.{lowest_of};
+ghost use Rattle.std.specs.Prelude.{◌≡◌, min, ◌≤◌, ◌<◌, ◌-◌, length};
+ghost use Rattle.refusal.specs.Order.{answered};
 ghost use Rattle.limits.specs.Limits.{most_columns, most_rows};
-ghost use Rattle.table.specs.Rows.{row_refusal, row_judged, rows_refusal};
-ghost use Rattle.table.specs.Plans.{bound_by, code_of, plan_of, code_end, plan_reach, places_left, walk_of, places_after};
-ghost use Rattle.table.specs.Serving.RowPlans.{id_offset, fixed_row, planned_row, planned_places, row_places};
+ghost use Rattle.table.specs.Rows.{rows_refusal};
+ghost use Rattle.table.specs.Plans.{bound_by, code_of, plan_of, id_offset, rows_by, code_end, plan_reach, places_left, walk_of, places_after};
+ghost use Rattle.table.specs.Serving.RowPlans.{fixed_row, planned_row, planned_places, judged_by, places_by, place_by};
 
-use crate::Reach;
-use header::{ColumnLayout, Layout};
+use crate::Unreached;
+use header::{ColumnLayout, Layout, Span};
 use limits::{MOST_COLUMNS, MOST_ROWS};
 use number::Order;
 use opening::Table;
-use refusal::{Refusal, WRONG_ID, WRONG_ROW};
+use refusal::{Kind, Refusal};
+
+// What the rows of a table need of its layout: the byte order; where row 1 starts; their width, or 0 where they have an index; the columns
+// that there are, and which of them is `id`; where it starts in a row of one width, if it is there; and the codes of the columns, for
+// rows that must be walked.
+#[derive(Clone, Copy)]
+pub struct Rows {
+    pub order: Order,
+    pub first: u32,
+    pub width: u32,
+    pub columns: usize,
+    pub id: usize,
+    pub offset: Option<usize>,
+    pub plan: [u64; MOST_COLUMNS],
+}
 
 // The code of a column in a plan: a triplet's; from 1 on, a `*` field's with elements of 0, 1, .. 24 bytes; from 26 on, a field's of 0,
 // 1, .. bytes.
@@ -22,9 +36,8 @@ const STAR_CODE: u64 = 1;
 
 const FIXED_CODE: u64 = 26;
 
-// ---- the walk over a row
-
 // The code of a column.
+#[tactic(auto, unfolding(crate::specs::Plans::code_of))]
 fn code_of(column: ColumnLayout) -> u64
     ensures { result ≡ code_of column }
 {
@@ -42,18 +55,38 @@ fn code_of(column: ColumnLayout) -> u64
 pub fn plan_of(layout: Layout) -> [u64; MOST_COLUMNS]
     ensures { result ≡ plan_of layout }
 {
-    let n = crate::count_columns(layout);
+    codes(&layout)
+}
+
+// The same of a layout that is lent, which has a kilobyte.
+#[tactic(auto, unfolding(crate::specs::Plans::plan_of))]
+fn codes(layout: &Layout) -> [u64; MOST_COLUMNS]
+    ensures { result ≡ plan_of layout.now }
+{
+    let n = limits::columns_within(layout.columns);
     let mut plan = [0u64; MOST_COLUMNS];
-    let mut j: usize = 0;
-    while j < n {
+    for j in 0..n {
         plan[j] = code_of(layout.cols[j]);
-        j += 1;
     }
     plan
 }
 
+// Where the id column starts in a row by its offset, if it is there.
+#[tactic(auto, unfolding(crate::specs::Plans::id_offset))]
+fn id_offset(layout: &Layout) -> Option<usize>
+    ensures { result ≡ id_offset layout.now }
+{
+    let id = layout.id;
+    if crate::lacks_column(layout, id) {
+        return None;
+    }
+    let c = layout.cols[id - 1];
+    Some(c.offset as usize)
+}
+
 // Where a field of this code ends.
-fn code_end(file: &[u8], at: usize, end: usize, code: u64, order: Order) -> Reach
+#[tactic(auto, unfolding(crate::specs::Plans::code_end))]
+fn code_end(file: &[u8], at: usize, end: usize, code: u64, order: Order) -> Result<usize, Unreached>
     requires { (at ≤ end) × (end ≤ length file.now) }
     ensures { result ≡ code_end order file.now end code at }
 {
@@ -66,255 +99,243 @@ fn code_end(file: &[u8], at: usize, end: usize, code: u64, order: Order) -> Reac
     crate::star_end(file, at, end, (code - STAR_CODE) as usize, order)
 }
 
-// The walk, from a place before a bound inside the file.
-fn walk_within(
-    file: &[u8],
-    plan: &[u64; MOST_COLUMNS],
-    n: usize,
-    order: Order,
-    start: usize,
-    bound: usize,
-    places: &mut [usize; MOST_COLUMNS],
-) -> Reach
-    requires { (start ≤ bound) × (bound ≤ length file.now) × (n ≤ most_columns) }
-    ensures value { result ≡ plan_reach order file.now plan.now start bound n }
-    ensures places_after { places.new ≡ places_left (plan_reach order file.now plan.now start bound) n places.old }
+// The end of row k, and the start of row k + 1; past the millionth row, its end.
+#[tactic(auto, unfolding(crate::specs::Plans::bound_by))]
+fn bound_by(index: &[u8], order: Order, first: u32, width: u32, k: usize) -> usize
+    ensures { result ≡ bound_by order index.now first width (min k most_rows) }
 {
-    let mut p = start;
-    let mut j: usize = 0;
-    while j < n {
-        places[j] = p;
-        match code_end(file, p, bound, plan[j], order) {
-            Reach::At(q) => {
-                p = q;
-            }
-            Reach::Short => {
-                return Reach::Short;
-            }
-            Reach::Cut(q) => {
-                return Reach::Cut(q);
-            }
-        }
-        j += 1;
+    let row = k.min(MOST_ROWS);
+    if width == 0 {
+        return opening::entry_end(index, order, first, row);
     }
-    Reach::At(p)
+    first as usize + width as usize * row
 }
-
-// THE WALK over a row: past the columns 1..n that the plan tells, from where the row starts, and at most to the bound. It keeps where
-// each column starts that it comes to, column k's at k - 1; the other places stay.
-pub fn walk(
-    file: &[u8],
-    plan: &[u64; MOST_COLUMNS],
-    n: usize,
-    order: Order,
-    start: usize,
-    bound: usize,
-    places: &mut [usize; MOST_COLUMNS],
-) -> Reach
-    ensures value { result ≡ walk_of order file.now plan.now n start bound }
-    ensures places_after { places.new ≡ places_after order file.now plan.now n start bound places.old }
-{
-    if crate::lies_outside(file, start, bound) {
-        return Reach::Short;
-    }
-    walk_within(
-        file,
-        plan,
-        crate::lesser(n, MOST_COLUMNS),
-        order,
-        start,
-        bound,
-        places,
-    )
-}
-
-// ---- one row
 
 // A row of fixed width: 10 outside the file, 9 where there is no id column, then its id, which stands at an offset.
-fn judge_fixed_row(
+#[tactic(auto, unfolding(refusal::specs::Order::first))]
+fn judge_fixed(
     file: &[u8],
     order: Order,
-    missing: bool,
-    offset: usize,
-    start: usize,
-    end: usize,
+    offset: Option<usize>,
+    lies: Span,
     row: usize,
-) -> Refusal
-    ensures { result ≡ fixed_row order file.now missing offset start end row }
+) -> Result<(), Refusal>
+    ensures { result ≡ answered (fixed_row order file.now offset lies.start lies.end row) }
 {
-    if crate::lies_outside(file, start, end) {
-        return refusal::refuse(WRONG_ROW, row);
+    if crate::lies_outside(file, lies) {
+        return Err(Kind::WrongRow.at(row));
     }
-    if missing {
-        return refusal::refuse(WRONG_ID, row);
+    match offset {
+        Some(offset) => {
+            let place = crate::place_within(lies.start, lies.end, offset);
+            crate::judge_id(file, order, place, row)
+        }
+        None => Err(Kind::WrongId.at(row)),
     }
-    crate::judge_id(file, order, crate::place_within(start, end, offset), row)
 }
 
-// A row that must be walked: 10 outside the file, 9 where there is no id column, 10 and 11 by column, 10 where it is not used up, then its
-// id, by the place that the walk kept.
-fn judge_walked_row(
-    file: &[u8],
-    plan: &[u64; MOST_COLUMNS],
-    columns: usize,
-    id: usize,
-    order: Order,
-    start: usize,
-    end: usize,
-    row: usize,
-    places: &mut [usize; MOST_COLUMNS],
-) -> Refusal
-    requires { (columns ≤ most_columns) × (length places.old ≡ most_columns) }
-    ensures value { result ≡ planned_row order file.now plan.now columns id start end row }
-    ensures places_after { places.new ≡ planned_places order file.now plan.now columns id start end row places.old }
-{
-    if crate::lies_outside(file, start, end) {
-        return refusal::refuse(WRONG_ROW, row);
+impl Rows {
+    // The rows of a layout: only rows with an index need the plan of a walk.
+    pub fn of(layout: &Layout) -> Rows
+        ensures { result ≡ rows_by layout.now }
+    {
+        let plan = if layout.width == 0 {
+            codes(layout)
+        } else {
+            [0u64; MOST_COLUMNS]
+        };
+        Rows {
+            order: layout.order,
+            first: layout.start,
+            width: layout.width,
+            columns: limits::columns_within(layout.columns),
+            id: layout.id,
+            offset: id_offset(layout),
+            plan,
+        }
     }
-    if crate::no_such(columns, id) {
-        return refusal::refuse(WRONG_ID, row);
+
+    // ---- where rows lie
+
+    // The end of row k, and the start of row k + 1; past the millionth row, its end.
+    pub fn bound(&self, index: &[u8], k: usize) -> usize
+        ensures { result ≡ bound_by self.now.order index.now self.now.first self.now.width (min k most_rows) }
+    {
+        bound_by(index, self.order, self.first, self.width, k)
     }
-    let reach = walk_within(file, plan, columns, order, start, end, places);
-    crate::judge_end(
-        reach,
-        end,
-        row,
-        crate::judge_id(file, order, places[id - 1], row),
-    )
+
+    // ---- the walk over a row
+
+    // The walk, where the row lies inside the file.
+    fn walk_within(
+        &self,
+        file: &[u8],
+        n: usize,
+        lies: Span,
+        places: &mut [usize; MOST_COLUMNS],
+    ) -> Result<usize, Unreached>
+        requires { (lies.start ≤ lies.end) × (lies.end ≤ length file.now) × (n ≤ most_columns) }
+        ensures value { result ≡ plan_reach self.now.order file.now self.now.plan lies.start lies.end n }
+        ensures places_after { places.new ≡ places_left (plan_reach self.now.order file.now self.now.plan lies.start lies.end) n places.old }
+    {
+        let mut at = lies.start;
+        for j in 0..n {
+            places[j] = at;
+            at = code_end(file, at, lies.end, self.plan[j], self.order)?;
+        }
+        Ok(at)
+    }
+
+    // THE WALK over a row: past the columns 1..n that the plan tells, from where the row starts, and at most to its end. It keeps where
+    // each column starts that it comes to, column k's at k - 1; the other places stay.
+    #[tactic(auto, unfolding(crate::specs::Plans::walk_of, crate::specs::Plans::places_after))]
+    pub fn walk(
+        &self,
+        file: &[u8],
+        n: usize,
+        lies: Span,
+        places: &mut [usize; MOST_COLUMNS],
+    ) -> Result<usize, Unreached>
+        ensures value { result ≡ walk_of self.now.order file.now self.now.plan n lies.start lies.end }
+        ensures places_after { places.new ≡ places_after self.now.order file.now self.now.plan n lies.start lies.end places.old }
+    {
+        if crate::lies_outside(file, lies) {
+            return Err(Unreached::Short);
+        }
+        self.walk_within(file, n.min(MOST_COLUMNS), lies, places)
+    }
+
+    // ---- one row
+
+    // A row that must be walked: 10 outside the file, 9 where there is no id column, 10 and 11 by column, 10 where it is not used up, then
+    // its id, by the place that the walk kept.
+    #[tactic(auto, unfolding(crate::specs::Serving::RowPlans::planned_row, crate::specs::Serving::RowPlans::planned_places, refusal::specs::Order::first))]
+    fn judge_walked(
+        &self,
+        file: &[u8],
+        lies: Span,
+        row: usize,
+        places: &mut [usize; MOST_COLUMNS],
+    ) -> Result<(), Refusal>
+        requires { (self.now.columns ≤ most_columns) × (length places.old ≡ most_columns) }
+        ensures value { result ≡ answered (planned_row self.now.order file.now self.now.plan self.now.columns self.now.id lies.start lies.end row) }
+        ensures places_after { places.new ≡ planned_places self.now.order file.now self.now.plan self.now.columns self.now.id lies.start lies.end row places.old }
+    {
+        if crate::lies_outside(file, lies) {
+            return Err(Kind::WrongRow.at(row));
+        }
+        if crate::no_such(self.columns, self.id) {
+            return Err(Kind::WrongId.at(row));
+        }
+        let reach = self.walk_within(file, self.columns, lies, places);
+        crate::judge_end(reach, lies.end, row)?;
+        crate::judge_id(file, self.order, places[self.id - 1], row)
+    }
+
+    // One row: the places are those of its columns where it was walked.
+    #[tactic(auto, unfolding(crate::specs::Serving::RowPlans::judged_by, crate::specs::Serving::RowPlans::places_by))]
+    pub(crate) fn judge(
+        &self,
+        file: &[u8],
+        lies: Span,
+        row: usize,
+        places: &mut [usize; MOST_COLUMNS],
+    ) -> Result<(), Refusal>
+        requires { (self.now.columns ≤ most_columns) × (length places.old ≡ most_columns) }
+        ensures value { result ≡ answered (judged_by self.now file.now lies.start lies.end row) }
+        ensures places_after { places.new ≡ places_by self.now file.now lies.start lies.end row places.old }
+    {
+        if self.width == 0 {
+            self.judge_walked(file, lies, row, places)
+        } else {
+            judge_fixed(file, self.order, self.offset, lies, row)
+        }
+    }
 }
 
-// Where the id column starts in a row by its offset; 0 where there is no such column.
-fn id_offset(layout: Layout) -> usize
-    ensures { result ≡ id_offset layout }
+// ---- one row alone: where rows have one width, no `Rows` with its plan is made for it, which would cost more than the row
+
+// Where a row lies: from the end of the one before it.
+pub(crate) fn lies(index: &[u8], layout: &Layout, row: usize) -> Span
+    requires { 0 < row }
+    ensures start { result.start ≡ bound_by layout.now.order index.now layout.now.start layout.now.width (min (row - 1) most_rows) }
+    ensures end { result.end ≡ bound_by layout.now.order index.now layout.now.start layout.now.width (min row most_rows) }
 {
-    let id = layout.id;
-    if crate::no_such_column(layout, id) {
-        return 0;
+    Span {
+        start: bound_by(index, layout.order, layout.start, layout.width, row - 1),
+        end: bound_by(index, layout.order, layout.start, layout.width, row),
     }
-    let c = layout.cols[id - 1];
-    c.offset as usize
 }
 
-// One row: the places are those of its columns where it was walked.
+// Its judgement: the places are those of its columns where it was walked.
+#[tactic(auto, unfolding(crate::specs::Serving::RowPlans::judged_by, crate::specs::Serving::RowPlans::places_by))]
 pub(crate) fn judge_row(
     file: &[u8],
-    layout: Layout,
-    start: usize,
-    end: usize,
+    layout: &Layout,
+    lies: Span,
     row: usize,
     places: &mut [usize; MOST_COLUMNS],
-) -> Refusal
+) -> Result<(), Refusal>
     requires { length places.old ≡ most_columns }
-    ensures value { result ≡ row_refusal file.now layout start end row }
-    ensures places_after { places.new ≡ row_places file.now layout start end row places.old }
+    ensures value { result ≡ answered (judged_by (rows_by layout.now) file.now lies.start lies.end row) }
+    ensures places_after { places.new ≡ places_by (rows_by layout.now) file.now lies.start lies.end row places.old }
 {
-    let order = layout.order;
-    let id = layout.id;
     if layout.width == 0 {
-        let plan = plan_of(layout);
-        return judge_walked_row(
-            file,
-            &plan,
-            crate::count_columns(layout),
-            id,
-            order,
-            start,
-            end,
-            row,
-            places,
-        );
+        judge_walked_row(file, layout, lies, row, places)
+    } else {
+        judge_fixed(file, layout.order, id_offset(layout), lies, row)
     }
-    judge_fixed_row(
-        file,
-        order,
-        crate::no_such_column(layout, id),
-        id_offset(layout),
-        start,
-        end,
-        row,
-    )
+}
+
+// A row that must be walked, apart, so that a row of one width makes no room for the plan.
+#[inline(never)]
+fn judge_walked_row(
+    file: &[u8],
+    layout: &Layout,
+    lies: Span,
+    row: usize,
+    places: &mut [usize; MOST_COLUMNS],
+) -> Result<(), Refusal>
+    requires { length places.old ≡ most_columns }
+    ensures value { let r = rows_by layout.now in result ≡ answered (planned_row r.order file.now r.plan r.columns r.id lies.start lies.end row) }
+    ensures places_after { let r = rows_by layout.now in places.new ≡ planned_places r.order file.now r.plan r.columns r.id lies.start lies.end row places.old }
+{
+    Rows::of(layout).judge_walked(file, lies, row, places)
+}
+
+// Where a column starts in a row that is judged: as the walk kept it, or by its offset where all rows have one width.
+#[tactic(auto, unfolding(crate::specs::Serving::RowPlans::place_by))]
+pub(crate) fn place(
+    places: &[usize; MOST_COLUMNS],
+    column: usize,
+    width: u32,
+    offset: usize,
+    lies: Span,
+) -> usize
+    requires { (0 < column) × (column ≤ most_columns) }
+    ensures { result ≡ place_by places.now column width offset lies.start lies.end }
+{
+    if width == 0 {
+        return places[column - 1];
+    }
+    crate::place_within(lies.start, lies.end, offset)
 }
 
 // ---- all rows
 
-// The rows 1..n, each of one width: nothing of the index is read.
-fn judge_fixed(file: &[u8], index: &[u8], layout: Layout, n: usize) -> Refusal
-    requires fact { layout.width ≡ 0 → ⊥ }
-    requires n_le_most_rows { n ≤ most_rows }
-    ensures { result ≡ lowest_of (row_judged file.now index.now layout) n }
+// The rows of a table, lowest first, each from where the last ended.
+#[tactic(auto, unfolding(crate::specs::Rows::rows_refusal))]
+pub fn judge_rows(file: &[u8], index: &[u8], table: Table) -> Result<(), Refusal>
+    ensures { result ≡ answered (rows_refusal file.now index.now table) }
 {
-    let order = layout.order;
-    let missing = crate::no_such_column(layout, layout.id);
-    let offset = id_offset(layout);
-    let mut start = layout.start as usize;
-    let mut i: usize = 0;
-    while i < n {
-        let end = crate::fixed_bound(layout.start, layout.width, i + 1);
-        let judged = judge_fixed_row(file, order, missing, offset, start, end, i + 1);
-        if judged.number != 0 {
-            return judged;
-        }
-        start = end;
-        i += 1;
-    }
-    refusal::no_refusal()
-}
-
-// The rows 1..n, each from where the last ended to where its entry says.
-fn judge_walked(file: &[u8], index: &[u8], layout: Layout, n: usize) -> Refusal
-    requires width_value { layout.width ≡ 0 }
-    requires n_le_most_rows { n ≤ most_rows }
-    ensures { result ≡ lowest_of (row_judged file.now index.now layout) n }
-{
-    let plan = plan_of(layout);
-    let columns = crate::count_columns(layout);
-    let order = layout.order;
+    let layout = &table.layout;
+    let rows = Rows::of(layout);
     let mut places = [0usize; MOST_COLUMNS];
     let mut start = layout.start as usize;
-    let mut i: usize = 0;
-    while i < n {
-        let end = opening::entry_end(index, order, layout.start, i + 1);
-        let judged = judge_walked_row(
-            file,
-            &plan,
-            columns,
-            layout.id,
-            order,
-            start,
-            end,
-            i + 1,
-            &mut places,
-        );
-        if judged.number != 0 {
-            return judged;
-        }
+    for i in 0..table.rows.min(MOST_ROWS) {
+        let end = rows.bound(index, i + 1);
+        rows.judge(file, Span { start, end }, i + 1, &mut places)?;
         start = end;
-        i += 1;
     }
-    refusal::no_refusal()
-}
-
-// The rows of a table, lowest first.
-pub fn judge_rows(file: &[u8], index: &[u8], table: Table) -> Refusal
-    ensures { result ≡ rows_refusal file.now index.now table }
-{
-    let layout = table.layout;
-    let n = crate::lesser(table.rows, MOST_ROWS);
-    if layout.width == 0 {
-        return judge_walked(file, index, layout, n);
-    }
-    judge_fixed(file, index, layout, n)
-}
-
-// ---- where rows lie
-
-// The end of row k, and the start of row k + 1; past the millionth row, its end. `width` is 0 where the rows have an index.
-pub fn bound_by(index: &[u8], order: Order, first: u32, width: u32, k: usize) -> usize
-    ensures { result ≡ bound_by order index.now first width (min k most_rows) }
-{
-    let row = crate::lesser(k, MOST_ROWS);
-    if width == 0 {
-        return opening::entry_end(index, order, first, row);
-    }
-    crate::fixed_bound(first, width, row)
+    Ok(())
 }

@@ -5,154 +5,94 @@
 // the library's own limit).
 #![tactic(auto)]
 
-ghost use Rattle.std.specs.Prelude.{◌≤◌};
-
-use bounds::{Rectangle32, Rectangle64};
-use casefile::{FILE_ROOM, say, say_bytes, say_number, say_refusal};
-use header::Answer;
+use bounds::Rectangle;
+use casefile::{FILE_ROOM, Fields, say, say_bytes};
 use limits::MOST_COLUMNS;
 use number::Order;
 use opening::{Opened, Table};
 use rectangle::Found;
+use refusal::Refusal;
 use std::io;
 use std::io::{BufWriter, Write};
 use std::rt::Files;
-use table::{Row, Value};
-use triplet::Ids;
+use table::Value;
 
 // No case opens a table of more rows.
 const MOST_SHOWN: usize = 100;
 
-// A negative number by what stands after its sign.
-fn say_signed(out: &mut impl Write, n: i64) -> io::Result<()> {
-    if n < 0 {
-        say(out, b"-")?;
-        say_number(out, (-1 - n) as u64 + 1)
-    } else {
-        say_number(out, n as u64)
-    }
-}
-
-fn say_short(out: &mut impl Write, n: i16) -> io::Result<()> {
-    say(out, b"short ")?;
-    say_signed(out, n as i64)
-}
-
-fn say_integer(out: &mut impl Write, n: i32) -> io::Result<()> {
-    say(out, b"integer ")?;
-    say_signed(out, n as i64)
-}
-
-// The pattern of a float: of four bytes, of eight.
-fn say_bits32(out: &mut impl Write, bits: u32) -> io::Result<()> {
-    write!(out, "{bits:08x}")
-}
-
-fn say_bits64(out: &mut impl Write, bits: u64) -> io::Result<()> {
-    write!(out, "{bits:016x}")
-}
-
-// A bound of a rectangle: only what is equal to itself has a pattern to show.
+// A bound of a rectangle by its pattern: only what is equal to itself has one to show.
 fn say_bound32(out: &mut impl Write, x: f32) -> io::Result<()> {
-    say(out, b" ")?;
     if x == x {
-        say_bits32(out, f32::to_bits(x))
+        write!(out, " {:08x}", f32::to_bits(x))
     } else {
-        say(out, b"NaN")
+        say(out, b" NaN")
     }
 }
 
 fn say_bound64(out: &mut impl Write, x: f64) -> io::Result<()> {
-    say(out, b" ")?;
     if x == x {
-        say_bits64(out, f64::to_bits(x))
+        write!(out, " {:016x}", f64::to_bits(x))
     } else {
-        say(out, b"NaN")
+        say(out, b" NaN")
     }
 }
 
-fn say_short_rectangle(out: &mut impl Write, r: Rectangle32) -> io::Result<()> {
+fn say_short_rectangle(out: &mut impl Write, r: Rectangle<f32>) -> io::Result<()> {
     say(out, b"f32")?;
-    say_bound32(out, r.least_x)?;
-    say_bound32(out, r.least_y)?;
-    say_bound32(out, r.greatest_x)?;
-    say_bound32(out, r.greatest_y)
-}
-
-fn say_double_rectangle(out: &mut impl Write, r: Rectangle64) -> io::Result<()> {
-    say(out, b"f64")?;
-    say_bound64(out, r.least_x)?;
-    say_bound64(out, r.least_y)?;
-    say_bound64(out, r.greatest_x)?;
-    say_bound64(out, r.greatest_y)
-}
-
-fn say_rectangle(out: &mut impl Write, found: Found) -> io::Result<()> {
-    match found {
-        Found::Short(r) => say_short_rectangle(out, r),
-        Found::Double(r) => say_double_rectangle(out, r),
-        Found::Refused(bad) => say_refusal(out, bad),
+    for bound in [r.least_x, r.least_y, r.greatest_x, r.greatest_y] {
+        say_bound32(out, bound)?;
     }
+    Ok(())
 }
 
-fn say_triplet(out: &mut impl Write, ids: Ids) -> io::Result<()> {
-    say(out, b"triplet ")?;
-    say_number(out, ids.id as u64)?;
-    say(out, b" ")?;
-    say_number(out, ids.tile as u64)?;
-    say(out, b" ")?;
-    say_number(out, ids.other as u64)
+fn say_double_rectangle(out: &mut impl Write, r: Rectangle<f64>) -> io::Result<()> {
+    say(out, b"f64")?;
+    for bound in [r.least_x, r.least_y, r.greatest_x, r.greatest_y] {
+        say_bound64(out, bound)?;
+    }
+    Ok(())
+}
+
+fn say_rectangle(out: &mut impl Write, found: Result<Found, Refusal>) -> io::Result<()> {
+    match found {
+        Ok(Found::Short(r)) => say_short_rectangle(out, r),
+        Ok(Found::Double(r)) => say_double_rectangle(out, r),
+        Err(bad) => write!(out, "refused {bad}"),
+    }
 }
 
 // Text as it stands in the file, and where.
 fn say_text(out: &mut impl Write, part: &[u8], place: usize) -> io::Result<()> {
     say(out, b" `")?;
     say(out, part)?;
-    say(out, b"` at ")?;
-    say_number(out, place as u64)
-}
-
-fn say_coordinates(out: &mut impl Write, part: &[u8], place: usize) -> io::Result<()> {
-    say(out, b"coordinates ")?;
-    say_bytes(out, part)?;
-    say(out, b" at ")?;
-    say_number(out, place as u64)
+    write!(out, "` at {place}")
 }
 
 fn say_value(out: &mut impl Write, file: &[u8], v: Value) -> io::Result<()> {
     match v {
-        Value::Short(n) => say_short(out, n),
-        Value::ShortNull => say(out, b"short null"),
-        Value::Integer(n) => say_integer(out, n),
-        Value::IntegerNull => say(out, b"integer null"),
-        Value::Float(bits) => {
-            say(out, b"float ")?;
-            say_bits32(out, bits)
-        }
-        Value::FloatNull(bits) => {
-            say(out, b"float null ")?;
-            say_bits32(out, bits)
-        }
-        Value::Double(bits) => {
-            say(out, b"double ")?;
-            say_bits64(out, bits)
-        }
-        Value::DoubleNull(bits) => {
-            say(out, b"double null ")?;
-            say_bits64(out, bits)
-        }
-        Value::Triplet(ids) => say_triplet(out, ids),
-        Value::Text(place, _) => {
+        Value::Short(Some(n)) => write!(out, "short {n}"),
+        Value::Short(None) => say(out, b"short null"),
+        Value::Integer(Some(n)) => write!(out, "integer {n}"),
+        Value::Integer(None) => say(out, b"integer null"),
+        Value::Float(bits) => write!(out, "float {bits:08x}"),
+        Value::FloatNull(bits) => write!(out, "float null {bits:08x}"),
+        Value::Double(bits) => write!(out, "double {bits:016x}"),
+        Value::DoubleNull(bits) => write!(out, "double null {bits:016x}"),
+        Value::Triplet(ids) => write!(out, "triplet {} {} {}", ids.id, ids.tile, ids.other),
+        Value::Text(extent) => {
             say(out, b"text")?;
-            say_text(out, table::part_of(file, v), place)
+            say_text(out, table::part_of(file, v), extent.start)
         }
-        Value::Date(place, _) => {
+        Value::Date(extent) => {
             say(out, b"date")?;
-            say_text(out, table::part_of(file, v), place)
+            say_text(out, table::part_of(file, v), extent.start)
         }
-        Value::Coordinates(place, _) => say_coordinates(out, table::part_of(file, v), place),
+        Value::Coordinates(extent) => {
+            say(out, b"coordinates ")?;
+            say_bytes(out, table::part_of(file, v))?;
+            write!(out, " at {}", extent.start)
+        }
         Value::Empty => say(out, b"empty"),
-        Value::Refused(bad) => say_refusal(out, bad),
     }
 }
 
@@ -164,26 +104,17 @@ fn say_column(
     row: usize,
     column: usize,
 ) -> io::Result<()> {
-    say(out, b"    ")?;
-    say_number(out, column as u64)?;
-    say(out, b" ")?;
-    say_value(
-        out,
-        file,
-        table::read_value(file, index, table, row, column),
-    )?;
+    write!(out, "    {column} ")?;
+    match table::read_value(file, index, table, row, column) {
+        Ok(v) => say_value(out, file, v)?,
+        Err(bad) => write!(out, "refused {bad}")?,
+    }
     say(out, b" | ")?;
     say_rectangle(
         out,
         rectangle::find_rectangle(file, index, table, row, column),
     )?;
     say(out, b"\n")
-}
-
-fn lesser(a: usize, b: usize) -> usize
-    ensures { result ≤ b }
-{
-    if a < b { a } else { b }
 }
 
 // Every column of a row, column 0 and the one after the last.
@@ -195,7 +126,7 @@ fn say_columns(
     row: usize,
 ) -> io::Result<()> {
     let layout = table.layout;
-    let last = lesser(layout.columns, MOST_COLUMNS) + 1;
+    let last = layout.columns.min(MOST_COLUMNS) + 1;
     for column in 0..=last {
         say_column(out, file, index, table, row, column)?;
     }
@@ -209,21 +140,10 @@ fn say_row(
     table: Table,
     row: usize,
 ) -> io::Result<()> {
-    say(out, b"  row ")?;
-    say_number(out, row as u64)?;
     match table::read_row(file, index, table, row) {
-        Row::Between(start, end) => {
-            say(out, b" from ")?;
-            say_number(out, start as u64)?;
-            say(out, b" to ")?;
-            say_number(out, end as u64)?;
-        }
-        Row::Refused(bad) => {
-            say(out, b" ")?;
-            say_refusal(out, bad)?;
-        }
+        Ok(lies) => writeln!(out, "  row {row} from {} to {}", lies.start, lies.end),
+        Err(bad) => writeln!(out, "  row {row} refused {bad}"),
     }
-    say(out, b"\n")
 }
 
 // A row that no table of so many has, and its first column.
@@ -240,7 +160,7 @@ fn say_absent(
 
 // Every row of a table, row 0 and the one after the last.
 fn say_rows(out: &mut impl Write, file: &[u8], index: &[u8], table: Table) -> io::Result<()> {
-    let last = lesser(table.rows, MOST_SHOWN);
+    let last = table.rows.min(MOST_SHOWN);
     say_absent(out, file, index, table, 0)?;
     for row in 1..=last {
         say_row(out, file, index, table, row)?;
@@ -250,28 +170,25 @@ fn say_rows(out: &mut impl Write, file: &[u8], index: &[u8], table: Table) -> io
 }
 
 // The table opened for a caller that takes so many rows, or as many as the library does.
-fn open_asked(file: &[u8], index: &[u8], most: &[u8]) -> Opened {
-    if most.len() == 0 {
+fn open_asked(file: &[u8], index: &[u8], most: &[u8]) -> Result<Opened, Refusal> {
+    if most.is_empty() {
         return opening::open_table(file, index);
     }
-    opening::open_within(file, index, number::read8(most, 0, Order::Least) as usize)
+    opening::open_within(
+        file,
+        index,
+        number::read::<u64>(most, 0, Order::Least) as usize,
+    )
 }
 
 fn say_table(out: &mut impl Write, file: &[u8], index: &[u8], most: &[u8]) -> io::Result<()> {
-    let opened = open_asked(file, index, most);
-    let answer = opened.answer;
-    let table = opened.table;
-    match answer {
-        Answer::Accepted => {
-            say(out, b"opened, rows ")?;
-            say_number(out, table.rows as u64)?;
-            say(out, b"\n")?;
+    match open_asked(file, index, most) {
+        Ok(opened) => {
+            let table = opened.table;
+            writeln!(out, "opened, rows {}", table.rows)?;
             say_rows(out, file, index, table)
         }
-        Answer::Refused(bad) => {
-            say_refusal(out, bad)?;
-            say(out, b"\n")
-        }
+        Err(bad) => writeln!(out, "refused {bad}"),
     }
 }
 
@@ -286,19 +203,13 @@ fn run_case(out: &mut impl Write, case: &[u8]) -> io::Result<()> {
     )
 }
 
-fn run(out: &mut impl Write, file: &[u8]) -> io::Result<()> {
-    let mut at = 0;
-    while at < file.len() {
-        run_case(out, casefile::field(file, at))?;
-        at = casefile::after(file, at);
-    }
-    Ok(())
-}
-
 fn run_file(files: &impl Files, out: &mut impl Write, path: &[u8]) -> io::Result<()> {
     let mut buf = [0u8; FILE_ROOM];
     let n = casefile::load(files, path, &mut buf);
-    run(out, &buf[..n])
+    for case in Fields::new(&buf[..n]) {
+        run_case(out, case)?;
+    }
+    Ok(())
 }
 
 fn main(rt: HostRuntime) -> io::Result<()> {

@@ -1,21 +1,19 @@
 -- "From K the internal id is taken; absent, null or negative numbers load as 0."
-use Rattle.std.specs.Prelude.{cond, List, ℕ, ◌-◌, eqb, ltb, take, drop}
+use Rattle.std.specs.Prelude.{cond, List, ℕ, ◌-◌, eqb, ltb, take, drop, Ok, Err}
 use Rattle.number.specs.declared.Order.{Order}
 use Rattle.number.specs.Bytes.{number}
 use Rattle.field.specs.declared.FieldType.{FieldType}
 use Rattle.field.specs.Letters.{letter_i, letter_k}
 use Rattle.field.specs.Fields.{is_integer, is_triplet}
-use Rattle.triplet.specs.declared.Triplet.{Triplet}
-use Rattle.triplet.specs.declared.Triplet.TheVariants.{Is, Refused}
-use Rattle.triplet.specs.Triplet.{triplet_of}
+use Rattle.triplet.specs.Triplet.{Reading, triplet_of}
 
 -- the patterns from 2,147,483,648 on are the negative numbers and null
 unfoldable pub natural : ℕ → ℕ
 natural bits = cond (ltb bits 2147483648) bits 0
 
-abbrev pub internal_id : Triplet → ℕ
-internal_id (Is ids n) = ids.id
-internal_id (Refused q) = 0
+abbrev pub internal_id : Reading → ℕ
+internal_id (Ok t) = t.ids.id
+internal_id (Err q) = 0
 
 -- the number of an I or K field that starts at p, in a row that ends at `end`
 unfoldable pub number_in : Order → List ℕ → FieldType → ℕ → ℕ → ℕ

@@ -1,4 +1,6 @@
 -- The text of a directory: how long its lines are, how it grows line by line, and that the two calls of `directory` give it.
+use Rattle.tile.specs.Walk.{Walked}
+use Rattle.tile.specs.Check.{Verdict}
 use mathlib.Core.Path.{◌≡◌, refl, sym, ap, ◌∙◌}
 use mathlib.Core.Bool.{Bool, true, false, cond, ◌||◌}
 use mathlib.Core.List.{List, ◌++◌, append_assoc}
@@ -16,56 +18,50 @@ use Rattle.laws.proofs.LentLaws.{stored_run, lent_from}
 use Rattle.laws.proofs.PieceLaws.{sets_append, begun_more, begun_front}
 use Rattle.laws.proofs.TestLaws.{clash}
 use Rattle.tile.specs.Columns.{Tile}
-use Rattle.tile.specs.declared.Verdict.{Verdict}
-use Rattle.tile.specs.declared.Verdict.TheVariants as verdict
-use Rattle.tile.specs.declared.Walked.{Walked}
 use Rattle.tile.specs.Check.{verdict_of}
 use Rattle.tile.specs.Walk.{walk_of, steps_of, all_steps}
 use Rattle.facts.proofs.AcceptedExactly.{accepted}
 use Rattle.load.specs.declared.Counts.{Counts}
-use Rattle.directory.specs.declared.AtFault.{AtFault}
-use Rattle.directory.specs.declared.AtFault.TheVariants.{Is, Nothing}
+use Rattle.std.proofs.Common.{Some, None, Ok, Err}
 use Rattle.report.specs.declared.FileName.TheVariants.{Edg, Fac, Rng, Cnd}
 use Rattle.directory.specs.declared.Sizes.{Sizes}
 use Rattle.limits.specs.Limits.{program_rows, program_sides}
 use Rattle.report.specs.Lines.{line_room, refuse_line, accept_line, ring_line, steps_line, with_front, told, bytes_told}
 use Rattle.report.proofs.LineFits.{accept_fits, ring_short, steps_fits}
 use Rattle.directory.specs.declared.Named.{Named}
-use Rattle.directory.specs.declared.Outcome.{Outcome}
-use Rattle.directory.specs.declared.Outcome.TheVariants.{Accepted, Refused}
 use Rattle.load.specs.Columns.{Columns, columns, lengths}
 use Rattle.directory.specs.Columns.{held, short, edges_short, short_of}
-use Rattle.directory.specs.Files.{Directory, files_read}
-use Rattle.directory.specs.Outcome.{unless_at_fault, tile_said, loaded_of, columns_after, checked_from, checked_as, checked_of, outcome_of}
+use Rattle.directory.specs.Files.{Directory, AtFault, files_read}
+use Rattle.directory.specs.Outcome.{Outcome, unless_at_fault, tile_said, loaded_of, columns_after, checked_from, checked_as, checked_of, outcome_of}
 use Rattle.directory.proofs.OutcomeLaws.{held_said, loaded_checked}
 use Rattle.directory.proofs.StepLaws.{steps_within}
 use Rattle.teller.specs.Text.{text_space, steps_from, ring_lines, accepted_text, text_as, loaded_text, text_of}
 
 -- ---- what an accepted check says of the columns
 
-none_short : (a b c d e : Bool) → cond a (Is Edg)
-    (cond b (Is Fac) (cond (c || d) (Is Rng) (cond e (Is Cnd) Nothing))) ≡ Nothing → (b ≡ false) × (c ≡ false)
+none_short : (a b c d e : Bool) → cond a (Some Edg)
+    (cond b (Some Fac) (cond (c || d) (Some Rng) (cond e (Some Cnd) None))) ≡ None → (b ≡ false) × (c ≡ false)
 none_short true b c d e q = clash (cc)
 none_short false true c d e q = clash (cc)
 none_short false false true d e q = clash (cc)
 none_short false false false d e q = (refl, refl)
 
 -- the counts that a check answers with are those that it was handed
-same : (c k : Counts) (t : Tile) (x : AtFault) (v : Verdict) → unless_at_fault x (checked_from c t v) ≡ Accepted k
-    → unless_at_fault x (checked_from c t v) ≡ Accepted c
-same c k t (Is n) v q = clash (cc)
-same c k t Nothing verdict.Accepted q = refl
-same c k t Nothing (verdict.Refused r) q = clash (cc)
+same : (c k : Counts) (t : Tile) (x : AtFault) (v : Verdict) → unless_at_fault x (checked_from c t v) ≡ Ok k
+    → unless_at_fault x (checked_from c t v) ≡ Ok c
+same c k t (Some n) v q = clash (cc)
+same c k t None (Ok tt) q = refl
+same c k t None (Err r) q = clash (cc)
 
-module _ (c : Counts) (l : Columns) (e : checked_of c l program_sides ≡ Accepted c) where
+module _ (c : Counts) (l : Columns) (e : checked_of c l program_sides ≡ Ok c) where
   stages : (x : AtFault) → short_of c l ≡ x → (v : Verdict) → verdict_of (held c l) program_sides ≡ v
-      → unless_at_fault x (checked_from c (held c l) v) ≡ Accepted c
-      → (short_of c l ≡ Nothing) × (verdict_of (held c l) program_sides ≡ verdict.Accepted)
-  stages (Is n) s v g q = clash (cc)
-  stages Nothing s verdict.Accepted g q = (s, g)
-  stages Nothing s (verdict.Refused r) g q = clash (cc)
+      → unless_at_fault x (checked_from c (held c l) v) ≡ Ok c
+      → (short_of c l ≡ None) × (verdict_of (held c l) program_sides ≡ (Ok tt))
+  stages (Some n) s v g q = clash (cc)
+  stages None s (Ok tt) g q = (s, g)
+  stages None s (Err r) g q = clash (cc)
 
-  checked : (short_of c l ≡ Nothing) × (verdict_of (held c l) program_sides ≡ verdict.Accepted)
+  checked : (short_of c l ≡ None) × (verdict_of (held c l) program_sides ≡ (Ok tt))
   unfolding checked_of checked_as
   checked = stages (short_of c l) refl (verdict_of (held c l) program_sides) refl e
 
@@ -138,7 +134,7 @@ module _ (t : Tile) where
             ∙ sym (sets_append (ring_lines t i) (ring_line row face steps) d start) ∙ ap (sets d start) (sym lines),
       )
 
-module _ (c : Counts) (l : Columns) (e : checked_of c l program_sides ≡ Accepted c) (few : c.faces ≤ program_rows)
+module _ (c : Counts) (l : Columns) (e : checked_of c l program_sides ≡ Ok c) (few : c.faces ≤ program_rows)
     (fewer : c.rings ≤ program_rows) where
   abbrev t : Tile
   t = held c l
@@ -181,27 +177,27 @@ module _ (c : Counts) (l : Columns) (e : checked_of c l program_sides ≡ Accept
 
 -- an accepted load, and what is told of the tile in its columns
 pub told_loaded : (z : Sizes) (d : Directory) (l l' : Columns) (c : Counts) → lengths l ≡ replicate 10 program_rows
-    → loaded_of z d (lengths l) ≡ Accepted c
-    → l' ≡ columns_after (Accepted c) (files_read d) l → loaded_text c l' ≡ text_of z d
+    → loaded_of z d (lengths l) ≡ Ok c
+    → l' ≡ columns_after (Ok c) (files_read d) l → loaded_text c l' ≡ text_of z d
 unfolding loaded_text text_of
 told_loaded z d l l' c n e p =
     ap (λ (x : Columns). text_as (checked_of c x program_sides) (held c x)) p
-    ∙ ap (λ (o : Outcome). text_as o (held c (columns_after (Accepted c) (files_read d) l))) (loaded_checked z d (lengths l) c e l program_sides)
+    ∙ ap (λ (o : Outcome). text_as o (held c (columns_after (Ok c) (files_read d) l))) (loaded_checked z d (lengths l) c e l program_sides)
     ∙ ap (text_as (outcome_of z d (lengths l) program_sides)) (held_said z d (lengths l) c e l)
     ∙ ap (λ (x : List ℕ). text_as (outcome_of z d x program_sides) (tile_said (files_read d))) n
 
 -- a refused one
 pub told_refused : (z : Sizes) (d : Directory) (l : Columns) (w : Named) → lengths l ≡ replicate 10 program_rows
-    → loaded_of z d (lengths l) ≡ Refused w
+    → loaded_of z d (lengths l) ≡ Err w
     → refuse_line w.file w.refusal ≡ text_of z d
 unfolding text_of outcome_of
 told_refused z d l w n e =
-    let q : loaded_of z d (replicate 10 program_rows) ≡ Refused w = ap (loaded_of z d) (sym n) ∙ e in
+    let q : loaded_of z d (replicate 10 program_rows) ≡ Err w = ap (loaded_of z d) (sym n) ∙ e in
     rw q refl
 
 -- a checked one
-pub told_checked : (c k : Counts) (l : Columns) (o : Outcome) → o ≡ checked_of c l program_sides → o ≡ Accepted k
-    → checked_of c l program_sides ≡ Accepted c
+pub told_checked : (c k : Counts) (l : Columns) (o : Outcome) → o ≡ checked_of c l program_sides → o ≡ Ok k
+    → checked_of c l program_sides ≡ Ok c
 unfolding checked_of checked_as
 told_checked c k l o a b = same c k (held c l) (short_of c l) (verdict_of (held c l) program_sides) (sym a ∙ b)
 
@@ -220,13 +216,13 @@ module _ (c : Counts) (d : List ℕ) (room : text_space ≤ length d) where
 
 -- ---- what a loaded tile is told as
 module _ (c : Counts) (l : Columns) (d : List ℕ) where
-  pub checked_lines : checked_of c l program_sides ≡ Accepted c → (n : ℕ) (d' : List ℕ)
+  pub checked_lines : checked_of c l program_sides ≡ Ok c → (n : ℕ) (d' : List ℕ)
       → n ≡ length (accepted_text c (held c l)) → d' ≡ with_front (accepted_text c (held c l)) d
       → (n ≡ length (loaded_text c l)) × (d' ≡ with_front (loaded_text c l) d)
   unfolding loaded_text
   checked_lines e n d' a b = rw e (a, b)
 
-  pub checked_refusal : text_space ≤ length d → (w : Named) → checked_of c l program_sides ≡ Refused w → (n : ℕ) (d' : List ℕ)
+  pub checked_refusal : text_space ≤ length d → (w : Named) → checked_of c l program_sides ≡ Err w → (n : ℕ) (d' : List ℕ)
       → n ≡ bytes_told (refuse_line w.file w.refusal) d → d' ≡ told (refuse_line w.file w.refusal) d
       → (n ≡ length (loaded_text c l)) × (d' ≡ with_front (loaded_text c l) d)
   unfolding loaded_text
@@ -243,8 +239,8 @@ blank-lengths : lengths blanks ≡ replicate 10 program_rows
 blank-lengths = let a : length blank ≡ program_rows = length-replicate {A = ℕ} program_rows 0 in rw a refl
 
 module _ (z : Sizes) (d : Directory) where
-  pub directory_lines : (c : Counts) (l : Columns) → loaded_of z d (lengths blanks) ≡ Accepted c → (o : Outcome)
-      → o ≡ Accepted c → l ≡ columns_after o (files_read d) blanks
+  pub directory_lines : (c : Counts) (l : Columns) → loaded_of z d (lengths blanks) ≡ Ok c → (o : Outcome)
+      → o ≡ Ok c → l ≡ columns_after o (files_read d) blanks
       → (x : List ℕ) (n : ℕ) (x' : List ℕ) → n ≡ length (loaded_text c l) → x' ≡ with_front (loaded_text c l) x
       → (n ≡ length (text_of z d)) × (x' ≡ with_front (text_of z d) x)
   directory_lines c l e o p q x n x' a b =
@@ -252,10 +248,17 @@ module _ (z : Sizes) (d : Directory) where
       (q ∙ ap (λ (o : Outcome). columns_after o (files_read d) blanks) p) in
       (a ∙ ap length t, b ∙ ap (λ (y : List ℕ). with_front y x) t)
 
-  pub directory-refusal : (w : Named) → loaded_of z d (lengths blanks) ≡ Refused w → (x : List ℕ) → length x ≡ text_space → (n : ℕ) (x' : List ℕ)
+  pub directory-refusal : (w : Named) → loaded_of z d (lengths blanks) ≡ Err w → (x : List ℕ) → length x ≡ text_space → (n : ℕ) (x' : List ℕ)
       → n ≡ bytes_told (refuse_line w.file w.refusal) x → x' ≡ told (refuse_line w.file w.refusal) x
       → (n ≡ length (text_of z d)) × (x' ≡ with_front (text_of z d) x)
   directory-refusal w e x r n x' a b =
       let k = le-ltb (length x) line_room (omega arith) in
       let t = told_refused z d blanks w blank-lengths e in
       (a ∙ rw k (ap length t), b ∙ rw k (ap (λ (y : List ℕ). with_front y x) t))
+
+  -- the same of columns that hold what was loaded
+  pub own_lines : (c : Counts) (l m : Columns) → loaded_of z d (lengths blanks) ≡ Ok c → (o : Outcome)
+      → o ≡ Ok c → m ≡ columns_after o (files_read d) blanks → (x : List ℕ) (n : ℕ) (x' : List ℕ)
+      → n ≡ length (loaded_text c l) → x' ≡ with_front (loaded_text c l) x → l ≡ m
+      → (n ≡ length (text_of z d)) × (x' ≡ with_front (text_of z d) x)
+  own_lines c l m e o p q x n x' u v w = directory_lines c l e o p (w ∙ q) x n x' u v

@@ -1,5 +1,5 @@
 -- What the program writes of a directory, byte for byte: the lines of an accepted one, or the one line of a refused one.
-use Rattle.std.specs.Prelude.{List, [], ◌++◌, ℕ, zero, suc, ◌*◌, replicate}
+use Rattle.std.specs.Prelude.{List, [], ◌++◌, ℕ, zero, suc, replicate, Ok, Err}
 use Rattle.laws.specs.Orbit.{entry}
 use Rattle.tile.specs.Columns.{Tile}
 use Rattle.tile.specs.Walk.{walk_of, steps_of, all_steps}
@@ -7,12 +7,10 @@ use Rattle.load.specs.declared.Counts.{Counts}
 use Rattle.directory.specs.declared.Sizes.{Sizes}
 use Rattle.limits.specs.Limits.{program_rows, program_sides, most_buffer}
 use Rattle.report.specs.Lines.{refuse_line, accept_line, ring_line, steps_line}
-use Rattle.directory.specs.declared.Outcome.{Outcome}
-use Rattle.directory.specs.declared.Outcome.TheVariants.{Accepted, Refused}
 use Rattle.load.specs.Columns.{Columns}
 use Rattle.directory.specs.Columns.{held}
 use Rattle.directory.specs.Files.{Directory, files_read}
-use Rattle.directory.specs.Outcome.{tile_said, checked_of, outcome_of}
+use Rattle.directory.specs.Outcome.{Outcome, tile_said, checked_of, outcome_of}
 
 -- the lengths of the program's own ten columns
 abbrev pub own_columns : List ℕ
@@ -38,8 +36,8 @@ accepted_text c t = accept_line c ++ (ring_lines t c.rings ++ steps_line (all_st
 
 -- "A refused tile writes `REFUSE edg 23 2`: file, number, place."
 abbrev pub text_as : Outcome → Tile → List ℕ
-text_as (Accepted c) t = accepted_text c t
-text_as (Refused w) t = refuse_line w.file w.refusal
+text_as (Ok c) t = accepted_text c t
+text_as (Err w) t = refuse_line w.file w.refusal
 
 -- what is written of the tile that was loaded to the front of ten columns
 unfoldable pub loaded_text : Counts → Columns → List ℕ

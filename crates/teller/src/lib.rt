@@ -2,33 +2,30 @@
 // its file, number and place. The columns, the owner marks and the side list are its own, so that nothing else is left changed.
 #![tactic(auto)]
 
-ghost use Rattle.std.specs.Prelude.{◌≡◌, ◌+◌, ◌*◌, ◌≤◌, length};
+ghost use Rattle.std.specs.Prelude.{◌≡◌, ◌+◌, ◌*◌, ◌≤◌, length, Ok};
 ghost use Rattle.std.proofs.lemmas.List.Edits.{sets};
 ghost use Rattle.limits.specs.Limits.{program_rows, program_sides};
 ghost use Rattle.report.specs.Lines.{line_room, ring_line, steps_line, with_front};
-ghost use Rattle.directory.specs.declared.Outcome.TheVariants.{Accepted};
-ghost use Rattle.load.specs.Columns.{columns};
 ghost use Rattle.directory.specs.Columns.{held};
-ghost use Rattle.directory.specs.Files.{directory};
 ghost use Rattle.tile.specs.Walk.{steps_of};
 ghost use Rattle.directory.specs.Outcome.{checked_of};
 ghost use Rattle.teller.specs.Text.{text_space, accepted_text, loaded_text, text_of};
 
-use directory::{Outcome, Sizes};
+use directory::{Columns, Directory, Sizes};
 use limits::{MOST_BUFFER, PROGRAM_ROWS, PROGRAM_SIDES};
-use load::Counts;
-use tile::Walked;
+use load::{ColumnsMut, Counts};
+use refusal::Refusal;
 
 // Room for every text, which has at most 62,062 bytes: as much as a buffer may have.
 pub const TEXT_SPACE: usize = MOST_BUFFER;
 
 // The steps of a walk. In an accepted tile every walk has them.
-fn steps_of(walked: Walked) -> usize
+fn steps_of(walked: Result<usize, Refusal>) -> usize
     ensures { result ≡ steps_of walked }
 {
     match walked {
-        Walked::Steps(n) => n,
-        Walked::Refused(_) => 0,
+        Ok(n) => n,
+        Err(_) => 0,
     }
 }
 
@@ -51,121 +48,44 @@ fn add_steps(text: &mut [u8], at: usize, all: usize) -> usize
 }
 
 // The lines of an accepted tile: its counts, its rings row after row, and the steps of all.
-fn tell_rings(
-    counts: Counts,
-    start_node: &[u32; PROGRAM_ROWS],
-    end_node: &[u32; PROGRAM_ROWS],
-    right_face: &[u32; PROGRAM_ROWS],
-    left_face: &[u32; PROGRAM_ROWS],
-    right_edge: &[u32; PROGRAM_ROWS],
-    left_edge: &[u32; PROGRAM_ROWS],
-    ring_ptr: &[u32; PROGRAM_ROWS],
-    fac_id: &[u32; PROGRAM_ROWS],
-    start_edge: &[u32; PROGRAM_ROWS],
-    first_edge: &[u32; PROGRAM_ROWS],
-    text: &mut [u8],
-) -> usize
+fn tell_rings(counts: Counts, columns: &Columns, text: &mut [u8]) -> usize
     requires text_space_in_bounds { (text_space ≤ length text.old) × (counts.faces ≤ program_rows) × (counts.rings ≤ program_rows) }
-    requires program_sides_value { checked_of counts
-        (columns start_node.now end_node.now right_face.now
-        left_face.now right_edge.now left_edge.now
-        ring_ptr.now fac_id.now
-        start_edge.now first_edge.now)
-        program_sides ≡ Accepted counts }
-    ensures value { result ≡ length (accepted_text counts
-        (held counts (columns start_node.now end_node.now right_face.now
-        left_face.now right_edge.now left_edge.now
-        ring_ptr.now fac_id.now
-        start_edge.now first_edge.now))) }
-    ensures text_after { text.new ≡ with_front
-        (accepted_text counts (held counts (columns start_node.now end_node.now right_face.now
-        left_face.now right_edge.now left_edge.now
-        ring_ptr.now fac_id.now
-        start_edge.now first_edge.now)))
-        text.old }
+    requires program_sides_value { checked_of counts columns.now program_sides ≡ Ok counts }
+    ensures value { result ≡ length (accepted_text counts (held counts columns.now)) }
+    ensures text_after { text.new ≡ with_front (accepted_text counts (held counts columns.now)) text.old }
 {
     let mut sides = [0u32; PROGRAM_SIDES];
-    let rings = counts.rings;
     let mut at = report::accept_line(counts, text);
     let mut all: usize = 0;
-    let mut i: usize = 0;
-    while i < rings {
+    for i in 0..counts.rings {
         let row = i + 1;
-        let steps = steps_of(directory::walk_ring(
-            counts, start_node, end_node, right_face, left_face, right_edge, left_edge, ring_ptr,
-            fac_id, start_edge, first_edge, row, &mut sides,
-        ));
-        at = add_ring(text, at, row, side::row(fac_id, row), steps);
+        let steps = steps_of(directory::walk_ring(counts, columns, row, &mut sides));
+        at = add_ring(text, at, row, side::row(columns.fac_id, row), steps);
         all = all + steps;
-        i = row;
     }
     add_steps(text, at, all)
 }
 
 // What is written of a loaded tile: its lines, or the check's refusal.
-fn tell_loaded(
-    counts: Counts,
-    start_node: &[u32; PROGRAM_ROWS],
-    end_node: &[u32; PROGRAM_ROWS],
-    right_face: &[u32; PROGRAM_ROWS],
-    left_face: &[u32; PROGRAM_ROWS],
-    right_edge: &[u32; PROGRAM_ROWS],
-    left_edge: &[u32; PROGRAM_ROWS],
-    ring_ptr: &[u32; PROGRAM_ROWS],
-    fac_id: &[u32; PROGRAM_ROWS],
-    start_edge: &[u32; PROGRAM_ROWS],
-    first_edge: &[u32; PROGRAM_ROWS],
-    text: &mut [u8],
-) -> usize
-    requires { text_space ≤ length text.old }
-    ensures value { result ≡ length (loaded_text counts
-        (columns start_node.now end_node.now right_face.now
-        left_face.now right_edge.now left_edge.now
-        ring_ptr.now fac_id.now
-        start_edge.now first_edge.now)) }
-    ensures text_after { text.new ≡ with_front
-        (loaded_text counts (columns start_node.now end_node.now right_face.now
-        left_face.now right_edge.now left_edge.now
-        ring_ptr.now fac_id.now
-        start_edge.now first_edge.now))
-        text.old }
+fn tell_loaded(counts: Counts, columns: &Columns, text: &mut [u8]) -> usize
+    requires text_space { text_space ≤ length text.old }
+    requires own_columns { (length columns.now.ring_ptr ≤ program_rows) × (length columns.now.fac_id ≤ program_rows) }
+    ensures value { result ≡ length (loaded_text counts columns.now) }
+    ensures text_after { text.new ≡ with_front (loaded_text counts columns.now) text.old }
 {
     let mut marks = [0u32; PROGRAM_SIDES];
-    match directory::check_loaded(
-        counts, start_node, end_node, right_face, left_face, right_edge, left_edge, ring_ptr,
-        fac_id, start_edge, first_edge, &mut marks,
-    ) {
-        Outcome::Accepted(_) => tell_rings(
-            counts, start_node, end_node, right_face, left_face, right_edge, left_edge, ring_ptr,
-            fac_id, start_edge, first_edge, text,
-        ),
-        Outcome::Refused(named) => {
-            let file = named.file;
-            report::refuse_line(file, named.refusal, text)
-        }
+    match directory::check_loaded(counts, columns, &mut marks) {
+        Ok(_) => tell_rings(counts, columns, text),
+        Err(named) => report::refuse_line(named.file, named.refusal, text),
     }
 }
 
 // Judges the files of a directory, each with the size that it is said to have, and leaves what is to be written at the front of the text: how
 // many bytes that is.
 // Example: of tile MJ21 the lines `ACCEPT nodes 3 edges 3 faces 2 rings 2`, `ring 1 face 1 steps 3`, `ring 2 face 2 steps 3`, `steps 6`.
-pub fn tell_tile(
-    sizes: Sizes,
-    edg: &[u8],
-    edx: &[u8],
-    fac: &[u8],
-    rng: &[u8],
-    cnd: &[u8],
-    cnx: &[u8],
-    text: &mut [u8; TEXT_SPACE],
-) -> usize
-    ensures value { result ≡ length (text_of sizes
-        (directory edg.now edx.now fac.now rng.now
-        cnd.now cnx.now)) }
-    ensures text_after { text.new ≡ with_front
-        (text_of sizes (directory edg.now edx.now fac.now rng.now
-        cnd.now cnx.now))
-        text.old }
+pub fn tell_tile(sizes: Sizes, lent: &Directory, text: &mut [u8; TEXT_SPACE]) -> usize
+    ensures value { result ≡ length (text_of sizes lent.now) }
+    ensures text_after { text.new ≡ with_front (text_of sizes lent.now) text.old }
 {
     let mut start_node = [0u32; PROGRAM_ROWS];
     let mut end_node = [0u32; PROGRAM_ROWS];
@@ -177,42 +97,34 @@ pub fn tell_tile(
     let mut fac_id = [0u32; PROGRAM_ROWS];
     let mut start_edge = [0u32; PROGRAM_ROWS];
     let mut first_edge = [0u32; PROGRAM_ROWS];
-    match directory::load_files(
-        sizes,
-        edg,
-        edx,
-        fac,
-        rng,
-        cnd,
-        cnx,
-        &mut start_node,
-        &mut end_node,
-        &mut right_face,
-        &mut left_face,
-        &mut right_edge,
-        &mut left_edge,
-        &mut ring_ptr,
-        &mut fac_id,
-        &mut start_edge,
-        &mut first_edge,
-    ) {
-        Outcome::Accepted(counts) => tell_loaded(
-            counts,
-            &start_node,
-            &end_node,
-            &right_face,
-            &left_face,
-            &right_edge,
-            &left_edge,
-            &ring_ptr,
-            &fac_id,
-            &start_edge,
-            &first_edge,
-            text,
-        ),
-        Outcome::Refused(named) => {
-            let file = named.file;
-            report::refuse_line(file, named.refusal, text)
+    let mut own = ColumnsMut {
+        start_node: &mut start_node,
+        end_node: &mut end_node,
+        right_face: &mut right_face,
+        left_face: &mut left_face,
+        right_edge: &mut right_edge,
+        left_edge: &mut left_edge,
+        ring_ptr: &mut ring_ptr,
+        fac_id: &mut fac_id,
+        start_edge: &mut start_edge,
+        first_edge: &mut first_edge,
+    };
+    match directory::load_files(sizes, lent, &mut own) {
+        Ok(counts) => {
+            let columns = Columns {
+                start_node: &start_node,
+                end_node: &end_node,
+                right_face: &right_face,
+                left_face: &left_face,
+                right_edge: &right_edge,
+                left_edge: &left_edge,
+                ring_ptr: &ring_ptr,
+                fac_id: &fac_id,
+                start_edge: &start_edge,
+                first_edge: &first_edge,
+            };
+            tell_loaded(counts, &columns, text)
         }
+        Err(named) => report::refuse_line(named.file, named.refusal, text),
     }
 }

@@ -1,104 +1,81 @@
 -- What each part of the tests leaves to the next, and the parts joined.
-use mathlib.Core.Path.{◌≡◌, refl, sym, ap, ◌∙◌}
-use mathlib.Core.Bool.{true, false}
-use mathlib.Core.List.{List, ◌∷◌, ◌++◌}
-use Prim.Native.Nat.{ℕ, ◌≤◌, ◌<◌}
-use native.Mathlib.Omega.{arith}
-use lib.Dec.{ltb}
-use lib.ListN.{length}
-use borrow.Author.Tests.{eq-eqb, ne_eqb, le-ltb, lt-ltb}
-use Rattle.laws.specs.Orbit.{first_doubled}
+use Rattle.std.proofs.Common.{◌≡◌, refl, sym, ap, ◌∙◌, true, false, cond, ℕ, ◌≤◌, ◌<◌, List, ◌∷◌, length, arith, Result, Ok, Err, OnOk}
+use Rattle.std.specs.Result.{is_err}
+use lib.Dec.{eqb, ltb}
+use borrow.Author.Tests.{le-ltb, lt-ltb, eqb-false}
 use Rattle.laws.specs.Buffer.{front}
 use Rattle.laws.specs.Marks.{zeros}
-use Rattle.laws.proofs.MarkLaws.{over_front}
+use Rattle.laws.proofs.LowestLaws.{bool_cases}
 use Rattle.refusal.specs.declared.Refusal.{Refusal}
-use Rattle.refusal.specs.Order.{refusal, fine, refused_if, located, first, first_of, lowest_of}
-use Rattle.refusal.proofs.OrderLaws.{passed_all, located_passes, lowest-fine, stops, goes_on, part_stops}
-use Rattle.refusal.proofs.OrderLaws.{part_goes_on, Numbered, first_numbered, located_numbered, lowest_numbered}
+use Rattle.refusal.specs.Order.{Answer, answered, refusal, fine, refused_if, located, first, first_of, lowest_of}
+use Rattle.refusal.proofs.OrderLaws.{passed_all, located_passes, lowest-fine, first_append, Numbered, first_numbered, located_numbered, lowest_numbered}
+use Rattle.refusal.proofs.AnswerLaws.{ok-fine}
 use Rattle.side.specs.Edges.{Edges, side_count}
-use Rattle.side.specs.Successor.{successor, after}
-use Rattle.side.specs.declared.Successor.{Successor}
-use Rattle.side.specs.declared.Successor.TheVariants.{Side, Wrong}
+use Rattle.side.specs.Successor.{Successor, successor}
 use Rattle.side.proofs.SideLaws.{Sound, successor_sound}
-use Rattle.tile.specs.Columns.{Tile, F, N, sides, start_side, empty_start}
+use Rattle.tile.specs.Columns.{Tile, F, N, sides}
 use Rattle.tile.specs.Check.{sizes_wrong, refused_side, edge_side_refusal, tests, verdict, verdict_of, marks_left, marks_after}
-use Rattle.tile.specs.Serving.Stages.{edge_tests, ring_tests, owner_tests, start_missing, start_of, owners_painted, rings_of}
-use Rattle.tile.specs.Serving.Stages.{owners_of, after_edges, later_tests, marks_judged}
-use Rattle.tile.specs.declared.Verdict.TheVariants.{Accepted, Refused}
-use Rattle.tile.proofs.OwnerLaws.{all_painted}
+use Rattle.tile.specs.Serving.Stages.{edge_tests, ring_tests, owner_tests, doubled_side, taken_ring, owners_painted, later_tests, owners_left, marks_judged}
+use Rattle.laws.proofs.BufferLaws.{front_over}
+use Rattle.tile.proofs.OwnerLaws.{all_painted, painted_over}
 
 -- ---- the edges' tests passed: every side has a successor
-pub sides-fine : (t : Edges) (faces nodes : ℕ) → (first_of (edge_tests t faces nodes)).number ≡ 0
+pub sides-fine : (t : Edges) (faces nodes : ℕ) (x : Answer) → x ≡ answered (first_of (edge_tests t faces nodes)) → x ≡ Ok tt
     → lowest_of (edge_side_refusal t) (side_count t) ≡ fine
 unfolding edge_tests
-sides-fine t faces nodes e = lowest-fine (edge_side_refusal t) (side_count t) (passed_all (edge_tests t faces nodes) e).1.1.1.0
+sides-fine t faces nodes x e h =
+    lowest-fine (edge_side_refusal t) (side_count t) (passed_all (edge_tests t faces nodes) (ok-fine _ (sym e ∙ h))).1.1.1.0
 
--- ---- 20 to 31 in order, part by part: a part that refuses is the answer
-module _ (t : Tile) (a : Refusal) (e : a ≡ first_of (edge_tests t.edg (F t) (N t))) where
-  pub at_edges : (a.number ≡ 0 → ⊥) → a ≡ first_of (later_tests t)
-  unfolding later_tests
-  at_edges n = part_stops (edge_tests t.edg (F t) (N t)) (after_edges t) a e n
-
-  module _ (n : a.number ≡ 0) (b : Refusal) (f : b ≡ located 26 (first_doubled (after t.edg) (sides t))) where
-    pub at_predecessors : (b.number ≡ 0 → ⊥) → b ≡ first_of (later_tests t)
-    unfolding later_tests
-    at_predecessors m = part_goes_on (edge_tests t.edg (F t) (N t)) (after_edges t) a b e n
-        (stops (located 26 (first_doubled (after t.edg) (sides t))) b (rings_of t ++ owners_of t) f m)
-
-    module _ (m : b.number ≡ 0) (c : Refusal) (g : c ≡ first_of (rings_of t)) where
-      pub at_rings : (c.number ≡ 0 → ⊥) → c ≡ first_of (later_tests t)
-      unfolding later_tests
-      at_rings l =
-          part_goes_on (edge_tests t.edg (F t) (N t)) (after_edges t) a c e n
-          (goes_on (located 26 (first_doubled (after t.edg) (sides t))) b c (rings_of t ++ owners_of t) f m
-          (part_stops (rings_of t) (owners_of t) c g l))
-
-      pub at_owners : c.number ≡ 0 → (d : Refusal) → d ≡ first_of (owners_of t) → d ≡ first_of (later_tests t)
-      unfolding later_tests
-      at_owners l d h =
-          part_goes_on (edge_tests t.edg (F t) (N t)) (after_edges t) a d e n
-          (goes_on (located 26 (first_doubled (after t.edg) (sides t))) b d (rings_of t ++ owners_of t) f m
-          (part_goes_on (rings_of t) (owners_of t) c d g l h))
+-- ---- 20 to 31 in order, part by part
+pub in_order : (t : Tile) → first_of (later_tests t)
+    ≡ first (first_of (edge_tests t.edg (F t) (N t))) (first (located 26 (doubled_side t.edg)) (first (first_of (ring_tests t)) (first_of (owner_tests t))))
+unfolding later_tests
+in_order t =
+    first_append (edge_tests t.edg (F t) (N t)) _
+    ∙ ap (λ (r : Refusal). first (first_of (edge_tests t.edg (F t) (N t))) (first (located 26 (doubled_side t.edg)) r)) (first_append (ring_tests t) (owner_tests t))
 
 -- ---- the marks: zeros where a part refuses, the owners where none does
-module _ (t : Tile) (d : List ℕ) where
-  pub erased : (q : Refusal) → (q.number ≡ 0 → ⊥) → (g : ℕ → ℕ) (m e : List ℕ) → m ≡ front g (sides t) d
-      → e ≡ front zeros (sides t) m → e ≡ marks_judged t q d
+module _ (t : Tile) (q : Refusal) (x : Answer) (e : x ≡ answered q) (d m : List ℕ) where
+  pub zeros_left : is_err x ≡ true → front zeros (sides t) m ≡ front zeros (sides t) d
+      → (z : List ℕ) → z ≡ front zeros (sides t) m → z ≡ marks_judged t q d
   unfolding marks_judged
-  erased q n g m e u v = rw (ne_eqb q.number 0 n) (over_front zeros g (sides t) d m e u v)
+  zeros_left h b z u =
+      bool_cases (eqb q.number 0)
+      (λ i. absurd (grind (arith, e, h, i)))
+      (λ i. rw i (u ∙ b))
 
-  pub erased-at_once : (q : Refusal) → (q.number ≡ 0 → ⊥) → (e : List ℕ) → e ≡ front zeros (sides t) d → e ≡ marks_judged t q d
+  pub owners_kept : is_err x ≡ false → OnOk x (m ≡ owners_left t d) → m ≡ marks_judged t q d
   unfolding marks_judged
-  erased-at_once q n e v = rw (ne_eqb q.number 0 n) v
+  owners_kept h o =
+      bool_cases (eqb q.number 0)
+      (λ i. rw i (rw (e, i) at o))
+      (λ i. absurd (grind (arith, e, h, i)))
 
-  -- what the painting leaves is a front too
-  pub painted_front : (g : ℕ → ℕ) (m e : List ℕ) → m ≡ front g (sides t) d
-      → e ≡ owners_painted t.edg t.fac_id t.start_edge m → e ≡ owners_painted t.edg t.fac_id t.start_edge d
-  unfolding owners_painted
-  painted_front g m e u v = over_front _ g (sides t) d m e u v
+-- the rings' cycles painted over marks that agree with the lent ones beyond the sides
+module _ (t : Tile) (d e m : List ℕ) (u : m ≡ owners_painted t e) (b : front zeros (sides t) e ≡ front zeros (sides t) d) where
+  pub beyond_sides : front zeros (sides t) m ≡ front zeros (sides t) d
+  beyond_sides = painted_over t e m u ∙ b
 
-  pub painted_erased : (q : Refusal) → (q.number ≡ 0 → ⊥) → (m e : List ℕ)
-      → m ≡ owners_painted t.edg t.fac_id t.start_edge d → e ≡ front zeros (sides t) m → e ≡ marks_judged t q d
-  unfolding owners_painted
-  painted_erased q n m e u v = erased q n _ m e u v
+  over : (g : ℕ → ℕ) → front g (sides t) e ≡ front g (sides t) d
+  over g = sym (front_over g zeros (sides t) e) ∙ ap (front g (sides t)) b ∙ front_over g zeros (sides t) d
 
-  pub painted_kept : (q : Refusal) → q.number ≡ 0 → q ≡ first_of (owners_of t) → (m : List ℕ)
-      → m ≡ owners_painted t.edg t.fac_id t.start_edge d → m ≡ marks_judged t q d
-  unfolding marks_judged owner_tests start_side start_of
-  painted_kept q n e m u =
-      let p = passed_all (owners_of t) (sym (ap (λ (r : Refusal). r.number) e) ∙ n) in
-      rw (eq-eqb q.number 0 n)
-      (all_painted t.edg t.fac_id t.start_edge d m (located_passes 30 _ (λ z. omega arith) p.0) u)
+  no_taken : (first_of (owner_tests t)).number ≡ 0 → taken_ring t ≡ 0
+  unfolding owner_tests
+  no_taken z = located_passes 30 _ (λ n. omega (arith, n)) (passed_all (owner_tests t) z).0
+
+  pub owners_ok : (x : Answer) → x ≡ answered (first_of (owner_tests t)) → OnOk x (m ≡ owners_left t d)
+  owners_ok (Ok _) q = all_painted t e m (no_taken (ok-fine _ (sym q))) u ∙ over _
+  owners_ok (Err _) q = tt
 
 -- ---- the check: the sizes and the owner space, then 20 to 31
 parts_joined : (t : Tile) (space : ℕ) → tests t space ≡ refused_if (sizes_wrong t) 15 0
     ∷ (refused_if (ltb space (sides t)) 14 (sides t) ∷ later_tests t)
-unfolding later_tests edge_tests ring_tests owner_tests start_missing start_of start_side empty_start
+unfolding later_tests edge_tests ring_tests owner_tests
 parts_joined t space = refl
 
 side_numbered : (s n : ℕ) (c : Successor) → Sound n c → Numbered 20 (refused_side s c)
-side_numbered s n (Side u) h z = absurd (z refl)
-side_numbered s n (Wrong w) h z = omega (arith, h.0)
+side_numbered s n (Ok u) h z = absurd (z refl)
+side_numbered s n (Err k) h z = omega (arith, h.0)
 
 later_numbered : (t : Tile) → Numbered 20 (first_of (later_tests t))
 unfolding later_tests edge_tests ring_tests owner_tests
@@ -139,29 +116,43 @@ later_numbered t =
       ),
     )
 
+-- the tile is sized, or it is refused
+module _ (t : Tile) (x : Result Tile Refusal) (e : x ≡ cond (sizes_wrong t) (Err (refusal 15 0)) (Ok t)) where
+  pub not_sized : (r : Refusal) → x ≡ Err r → (sizes_wrong t ≡ true) × (r ≡ refusal 15 0)
+  not_sized r h =
+      bool_cases (sizes_wrong t)
+      (λ w. (w, grind (arith, h, rw w at e)))
+      (λ w. absurd (grind (arith, h, rw w at e)))
+
+  pub is_sized : (u : Tile) → x ≡ Ok u → (sizes_wrong t ≡ false) × (u ≡ t)
+  is_sized u h =
+      bool_cases (sizes_wrong t)
+      (λ w. absurd (grind (arith, h, rw w at e)))
+      (λ w. (w, cc (h, rw w at e)))
+
 module _ (t : Tile) (d : List ℕ) where
-  pub wrong_sizes : (q : Refusal) → q ≡ refusal 15 0 → sizes_wrong t ≡ true → (Refused q ≡ verdict_of t (length d)) × (d ≡ marks_after t d)
+  pub wrong_sizes : (q : Refusal) → q ≡ refusal 15 0 → sizes_wrong t ≡ true → (Err q ≡ verdict_of t (length d)) × (d ≡ marks_after t d)
   unfolding verdict marks_left first
   wrong_sizes q e w = (rw (e, w), rw w)
 
   module _ (w : sizes_wrong t ≡ false) where
-    pub no_space : (q : Refusal) → q ≡ refusal 14 (sides t) → length d < sides t → (Refused q ≡ verdict_of t (length d)) × (d ≡ marks_after t d)
+    pub no_space : (q : Refusal) → q ≡ refusal 14 (sides t) → length d < sides t → (Err q ≡ verdict_of t (length d)) × (d ≡ marks_after t d)
     unfolding verdict marks_left first
     no_space q e h = (rw (e, w, lt-ltb (length d) (sides t) h), rw (w, lt-ltb (length d) (sides t) h))
 
-    module _ (h : sides t ≤ length d) (q : Refusal) (e : q ≡ first_of (later_tests t)) where
-      pub is_verdict : q ≡ verdict t (length d)
+    module _ (h : sides t ≤ length d) where
+      is_verdict : first_of (later_tests t) ≡ verdict t (length d)
       unfolding verdict first
-      is_verdict = e ∙ sym (ap first_of (parts_joined t (length d)) ∙ rw (w, le-ltb (length d) (sides t) h) refl)
+      is_verdict = sym (ap first_of (parts_joined t (length d)) ∙ rw (w, le-ltb (length d) (sides t) h) refl)
 
-      pub accepted : q.number ≡ 0 → (m : List ℕ) → m ≡ marks_judged t q d → (Accepted ≡ verdict_of t (length d)) × (m ≡ marks_after t d)
-      unfolding marks_judged marks_left
-      accepted z m u = (rw (← is_verdict, eq-eqb q.number 0 z), rw (← is_verdict, eq-eqb q.number 0 z) (rw (eq-eqb q.number 0 z) at u))
+      pub judged : (x : Answer) → x ≡ answered (first_of (later_tests t)) → x ≡ verdict_of t (length d)
+      judged x e = e ∙ ap answered is_verdict
 
-      pub refused : (q.number ≡ 0 → ⊥) → (m : List ℕ) → m ≡ marks_judged t q d → (Refused q ≡ verdict_of t (length d)) × (m ≡ marks_after t d)
+      pub marks_are : (m : List ℕ) → m ≡ marks_judged t (first_of (later_tests t)) d → m ≡ marks_after t d
       unfolding marks_judged marks_left
-      refused z m u =
-          let l : 20 ≤ q.number = rw (← e) at (later_numbered t) z in (
-            rw (← is_verdict, ne_eqb q.number 0 z),
-            rw (← is_verdict, ne_eqb q.number 0 z, le-ltb q.number 20 l) (rw (ne_eqb q.number 0 z) at u),
-          )
+      marks_are m u =
+          bool_cases (eqb (first_of (later_tests t)).number 0)
+          (λ z. rw (← is_verdict, z) (rw z at u))
+          (λ z.
+          let n = eqb-false (first_of (later_tests t)).number 0 z in
+          rw (← is_verdict, z, le-ltb (first_of (later_tests t)).number 20 (later_numbered t n)) (rw z at u))

@@ -1,4 +1,3 @@
-pub mod JoinedTests
 pub mod SizeLaws
 pub mod NoSecondAnswer
 pub mod RunsExactly
@@ -7,3 +6,5 @@ pub mod OwnerLaws
 pub mod JudgeLaws
 pub mod WalkLaws
 pub mod SuccessorLaws
+pub mod RowLaws
+pub mod AnswersInOrder

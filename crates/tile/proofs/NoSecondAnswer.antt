@@ -5,10 +5,8 @@ use mathlib.Core.List.{List}
 use Prim.Native.Nat.{ℕ}
 use lib.ListN.{length}
 use Rattle.tile.specs.Columns.{Tile}
-use Rattle.tile.specs.Check.{verdict_of, marks_after}
-use Rattle.tile.specs.Walk.{walk_of, sides_written}
-use Rattle.tile.specs.declared.Verdict.{Verdict}
-use Rattle.tile.specs.declared.Walked.{Walked}
+use Rattle.tile.specs.Check.{Verdict, verdict_of, marks_after}
+use Rattle.tile.specs.Walk.{Walked, walk_of, sides_written}
 
 -- the answer r, and the buffer m left of the lent d
 abbrev pub FitsCheck : Tile → List ℕ → Verdict → List ℕ → Type 0

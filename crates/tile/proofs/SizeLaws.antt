@@ -2,11 +2,12 @@
 use mathlib.Core.Path.{◌≡◌}
 use mathlib.Core.Logic.{◌↔◌}
 use mathlib.Core.Bool.{false}
-use Prim.Native.Nat.{◌≤◌, ◌<◌}
+use Prim.Native.Nat.{◌*◌, ◌≤◌, ◌<◌}
 use lib.ListN.{length}
 use Rattle.laws.proofs.TestLaws.{or_false, not_unequal, nonzero, not_above}
+use native.Mathlib.Omega.{arith}
 use Rattle.limits.specs.Limits.{most_rows}
-use Rattle.tile.specs.Columns.{Tile, E, F, R, N, Regular}
+use Rattle.tile.specs.Columns.{Tile, E, F, R, N, sides}
 use Rattle.tile.specs.Check.{slices_unequal, too_many_rows, sizes_wrong}
 
 module _ (t : Tile) where
@@ -39,9 +40,6 @@ module _ (t : Tile) where
   pub rows_within : sizes_wrong t ≡ false → (E t ≤ most_rows) × (R t ≤ most_rows)
   rows_within e = let h = (sizes_right.0 e).1.0 in (h.0, h.1.1.0)
 
-  -- and the columns of the edge table have one length
-  pub regular : sizes_wrong t ≡ false → Regular t.edg
-  regular e =
-      let h = sizes_right.0 e in
-      let l = h.0 in
-      (h.1.0.0, l.0, l.1.0, l.1.1.0, l.1.1.1.0, l.1.1.1.1.0)
+-- the number of a side is small
+pub sides_within : (u v : Tile) → u ≡ v → sizes_wrong u ≡ false → sides v ≤ 2 * most_rows
+sides_within u v q w = rw (← q) (omega (arith, (rows_within u w).0))

@@ -1,20 +1,17 @@
 -- "Accepted when all of these hold, tested in order, lowest row or side first": the tests, and the answer.
-use Rattle.std.specs.Prelude.{Bool, cond, not, ◌&&◌, ◌||◌, List, [], ◌∷◌, ℕ, pred, ◌+◌, eqb, ltb, length}
+use Rattle.std.specs.Prelude.{Bool, cond, not, ◌&&◌, ◌||◌, List, [], ◌∷◌, ℕ, pred, ◌+◌, eqb, ltb, length, Ok, Err}
 use Rattle.laws.specs.Lowest.{lowest}
 use Rattle.laws.specs.Sums.{hits}
 use Rattle.laws.specs.Orbit.{entry, first_taken, first_unmet, first_doubled}
 use Rattle.laws.specs.Buffer.{front}
 use Rattle.laws.specs.Marks.{zeros, owner_at}
 use Rattle.refusal.specs.declared.Refusal.{Refusal}
-use Rattle.refusal.specs.Order.{refusal, fine, refused_if, located, lowest_of, first_of}
-use Rattle.side.specs.declared.Successor.{Successor}
-use Rattle.side.specs.declared.Successor.TheVariants.{Side, Wrong}
+use Rattle.refusal.specs.Order.{Answer, answered, refusal, fine, refused_if, located, lowest_of, first_of}
+use Rattle.refusal.specs.Kinds.{number_of}
 use Rattle.side.specs.Edges.{Edges, outside}
-use Rattle.side.specs.Successor.{successor, after}
+use Rattle.side.specs.Successor.{Successor, successor, after}
 use Rattle.limits.specs.Limits.{most_rows}
 use Rattle.tile.specs.Columns.{Tile, E, F, R, N, sides, start_side, empty_start}
-use Rattle.tile.specs.declared.Verdict.{Verdict}
-use Rattle.tile.specs.declared.Verdict.TheVariants.{Accepted, Refused}
 
 -- 15: "tile slices of one table unequal"
 unfoldable pub slices_unequal : Tile → Bool
@@ -45,8 +42,8 @@ link_outside t = row_outside (E t) t.edg.right_edge t.edg.left_edge
 
 -- 23, 24, 25: what is wrong at a side
 abbrev pub refused_side : ℕ → Successor → Refusal
-refused_side s (Side u) = fine
-refused_side s (Wrong n) = refusal n s
+refused_side s (Ok u) = fine
+refused_side s (Err k) = refusal (number_of k) s
 
 abbrev pub edge_side_refusal : Edges → ℕ → Refusal
 edge_side_refusal t s = refused_side s (successor t s)
@@ -110,8 +107,9 @@ tests t space =
 unfoldable pub verdict : Tile → ℕ → Refusal
 verdict t space = first_of (tests t space)
 
-abbrev pub answered : Refusal → Verdict
-answered q = cond (eqb q.number 0) Accepted (Refused q)
+-- accepted, or the refusal
+abbrev pub Verdict : Type 0
+Verdict = Answer
 
 -- THE CHECK
 abbrev pub verdict_of : Tile → ℕ → Verdict

@@ -1,7 +1,6 @@
 -- A tile as ten columns of numbers. Rows count from 1; 0 stands for none.
-use Rattle.std.specs.Prelude.{◌≡◌, Bool, cond, ◌&&◌, List, ℕ, ◌*◌, ◌≤◌, eqb, length}
+use Rattle.std.specs.Prelude.{Bool, cond, ◌&&◌, List, ℕ, ◌*◌, eqb, length}
 use Rattle.laws.specs.Orbit.{entry}
-use Rattle.limits.specs.Limits.{most_rows}
 use Rattle.side.specs.Edges.{Edges, edge_count, outside, right, left}
 
 pub record Tile : Type 0 where
@@ -29,16 +28,6 @@ N t = length t.first_edge
 
 abbrev pub sides : Tile → ℕ
 sides t = 2 * E t
-
--- the columns of one edge table, of right sizes
-abbrev pub Regular : Edges → Type 0
-Regular t =
-    (edge_count t ≤ most_rows)
-    × (length t.end_node ≡ edge_count t)
-    × (length t.right_face ≡ edge_count t)
-    × (length t.left_face ≡ edge_count t)
-    × (length t.right_edge ≡ edge_count t)
-    × (length t.left_edge ≡ edge_count t)
 
 -- "The start side is the one with the ring's face; if both have it, the right one."
 -- Of the edge e, of `edge_rows` with these faces: 0 where e is none of 1..E or neither side has the face f

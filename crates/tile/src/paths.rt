@@ -1,129 +1,73 @@
 // The walk from a start side: its moves counted, then its sides written.
-ghost use Rattle.std.specs.Prelude.{◌≡◌, ℕ, ◌*◌, ◌≤◌, length};
+ghost use Rattle.std.specs.Prelude.{◌≡◌, ℕ, ◌≤◌, length};
 ghost use Rattle.laws.specs.Orbit.{iterate};
 ghost use Rattle.laws.specs.Buffer.{front};
-ghost use Rattle.side.specs.Edges.{edges};
+ghost use Rattle.refusal.specs.Kinds.{number_of};
 ghost use Rattle.side.specs.Successor.{after};
-ghost use Rattle.tile.specs.Columns.{Regular};
+ghost use Rattle.tile.specs.Columns.{sides};
 ghost use Rattle.tile.specs.Walk.{stuck_at, moves, walked};
 ghost use Rattle.tile.specs.Serving.Stages.{in_full, path_written};
 
-use crate::{Walked, columns, successors};
-use refusal::{EDGE_OUT_OF_RANGE, NOT_CLOSED, Refusal, TOO_SHORT};
+use crate::sizes::SizedTile;
+use refusal::{Kind, Refusal};
 
 // A move that cannot be made: 22 has the edge row as place, 23 to 25 the side.
-fn stuck_at(number: u32, s: usize) -> Refusal
-    ensures { result ≡ stuck_at number s }
+fn stuck_at(kind: Kind, s: usize) -> Refusal
+    ensures { result ≡ stuck_at (number_of kind) s }
 {
-    if number == EDGE_OUT_OF_RANGE {
-        return refusal::refuse(number, s / 2 + s % 2);
+    match kind {
+        Kind::EdgeOutOfRange => kind.at(s / 2 + s % 2),
+        _ => kind.at(s),
     }
-    refusal::refuse(number, s)
 }
 
 // The successor moves from start until it returns, at most 2E; 22 to 25 at a move that cannot be made, 32 at the ring row r without a
 // return.
-fn count_moves(
-    start_node: &[u32],
-    end_node: &[u32],
-    right_face: &[u32],
-    left_face: &[u32],
-    right_edge: &[u32],
-    left_edge: &[u32],
-    start: usize,
-    r: usize,
-) -> Walked
-    requires regular { Regular (edges start_node.now end_node.now right_face.now left_face.now right_edge.now
-        left_edge.now) }
-    requires start_bound { start ≤ 2 * length start_node.now }
-    ensures { result ≡ in_full r (moves (edges start_node.now end_node.now right_face.now
-        left_face.now right_edge.now left_edge.now) start) }
+fn count_moves(tile: &SizedTile, start: usize, r: usize) -> Result<usize, Refusal>
+    ensures { result ≡ in_full r (moves tile.now.edg start) }
 {
-    let n = 2 * start_node.len();
     let mut s = start;
-    let mut k: usize = 0;
-    while k < n {
-        let u = successors::side_after(
-            start_node, end_node, right_face, left_face, right_edge, left_edge, s,
-        );
-        if u == 0 {
-            let q = columns::judge_side(
-                start_node, end_node, right_face, left_face, right_edge, left_edge, s,
-            );
-            return Walked::Refused(stuck_at(q.number, s));
-        }
-        s = u;
-        k += 1;
+    for k in 0..tile.sides() {
+        s = match tile.next_side(s) {
+            Ok(u) => u,
+            Err(kind) => return Err(stuck_at(kind, s)),
+        };
         if s == start {
-            return Walked::Steps(k);
+            return Ok(k + 1);
         }
     }
-    Walked::Refused(refusal::refuse(NOT_CLOSED, r))
+    Err(Kind::NotClosed.at(r))
 }
 
 // Writes the first k sides of the walk, start first.
-fn write_sides(
-    start_node: &[u32],
-    end_node: &[u32],
-    right_face: &[u32],
-    left_face: &[u32],
-    right_edge: &[u32],
-    left_edge: &[u32],
-    start: usize,
-    k: usize,
-    out: &mut [u32],
-)
-    requires regular { Regular (edges start_node.now end_node.now right_face.now left_face.now right_edge.now
-        left_edge.now) }
-    requires start_bound { start ≤ 2 * length start_node.now }
+fn write_sides(tile: &SizedTile, start: usize, k: usize, out: &mut [u32])
+    requires start_bound { start ≤ sides tile.now }
     requires k_in_bounds { k ≤ length out.old }
-    ensures { out.new ≡ front (λ (i : ℕ). iterate (after (edges start_node.now end_node.now
-        right_face.now left_face.now right_edge.now left_edge.now)) i start) k
-        out.old }
+    ensures { out.new ≡ front (λ (i : ℕ). iterate (after tile.now.edg) i start) k out.old }
 {
+    let _ = &tile.tile;
     let mut s = start;
-    let mut j: usize = 0;
-    while j < k {
+    for j in 0..k {
         out[j] = s as u32;
-        s = successors::side_after(
-            start_node, end_node, right_face, left_face, right_edge, left_edge, s,
-        );
-        j += 1;
+        s = tile.next_side(s).unwrap_or(0);
     }
 }
 
 // The walk of ring row r from its start side: 22 to 25 at a move, 32 where it does not close, 14 for a short output.
 pub(crate) fn walk_from(
-    start_node: &[u32],
-    end_node: &[u32],
-    right_face: &[u32],
-    left_face: &[u32],
-    right_edge: &[u32],
-    left_edge: &[u32],
+    tile: &SizedTile,
     start: usize,
     r: usize,
     out: &mut [u32],
-) -> Walked
-    requires regular { Regular (edges start_node.now end_node.now right_face.now left_face.now right_edge.now
-        left_edge.now) }
-    requires start_bound { start ≤ 2 * length start_node.now }
-    ensures value { result ≡ walked r (length out.old) (moves (edges start_node.now end_node.now
-        right_face.now left_face.now right_edge.now left_edge.now) start) }
-    ensures out_after { out.new ≡ path_written (edges start_node.now end_node.now right_face.now
-        left_face.now right_edge.now left_edge.now) start result out.old }
+) -> Result<usize, Refusal>
+    requires { start ≤ sides tile.now }
+    ensures value { result ≡ walked r (length out.old) (moves tile.now.edg start) }
+    ensures out_after { out.new ≡ path_written tile.now.edg start result out.old }
 {
-    match count_moves(
-        start_node, end_node, right_face, left_face, right_edge, left_edge, start, r,
-    ) {
-        Walked::Steps(k) => {
-            if out.len() < k {
-                return Walked::Refused(refusal::refuse(TOO_SHORT, k));
-            }
-            write_sides(
-                start_node, end_node, right_face, left_face, right_edge, left_edge, start, k, out,
-            );
-            Walked::Steps(k)
-        }
-        Walked::Refused(q) => Walked::Refused(q),
+    let k = count_moves(tile, start, r)?;
+    if out.len() < k {
+        return Err(Kind::TooShort.at(k));
     }
+    write_sides(tile, start, k, out);
+    Ok(k)
 }

@@ -1,97 +1,94 @@
-// 15: the lengths of the ten slices.
-ghost use Rattle.std.specs.Prelude.{◌≡◌, not, ◌||◌, eqb, ltb};
-ghost use Rattle.side.specs.Edges.{edges};
-ghost use Rattle.limits.specs.Limits.{most_rows};
-ghost use Rattle.tile.specs.Columns.{tile};
-ghost use Rattle.tile.specs.Check.{sizes_wrong};
+// 15: the lengths of the ten slices, and a tile in which they are right.
+ghost use Rattle.std.specs.Prelude.{◌≡◌, cond, Ok, Err};
+ghost use Rattle.refusal.specs.Order.{refusal};
+ghost use Rattle.side.specs.Successor.{successor};
+ghost use Rattle.tile.specs.Columns.{sides};
+ghost use Rattle.tile.specs.Check.{slices_unequal, too_many_rows, sizes_wrong};
 
+use crate::Tile;
 use limits::MOST_ROWS;
+use refusal::{Kind, Refusal};
+use std::marker::Model;
 
 // Whether a column of the edge table has another length than start_node, or start_edge than fac_id.
-fn slices_unequal(
-    edges: usize,
-    end_node: usize,
-    right_face: usize,
-    left_face: usize,
-    right_edge: usize,
-    left_edge: usize,
-    rings: usize,
-    start_edge: usize,
-) -> bool
-    ensures { result ≡ (not (eqb end_node edges) || (not (eqb right_face edges) || (not (eqb left_face edges) || (not (eqb
-        right_edge edges) || (not (eqb left_edge edges) || not (eqb start_edge rings)))))) }
+#[tactic(auto, unfolding(crate::specs::Check::slices_unequal))]
+fn slices_unequal(tile: &Tile) -> bool
+    ensures { result ≡ slices_unequal tile.now }
 {
-    if end_node != edges {
-        return true;
-    }
-    if right_face != edges {
-        return true;
-    }
-    if left_face != edges {
-        return true;
-    }
-    if right_edge != edges {
-        return true;
-    }
-    if left_edge != edges {
-        return true;
-    }
-    start_edge != rings
+    let edges = tile.edges.start_node.len();
+    tile.edges.end_node.len() != edges
+        || tile.edges.right_face.len() != edges
+        || tile.edges.left_face.len() != edges
+        || tile.edges.right_edge.len() != edges
+        || tile.edges.left_edge.len() != edges
+        || tile.start_edge.len() != tile.fac_id.len()
 }
 
 // Whether a table has too many rows.
-fn too_many(edges: usize, faces: usize, rings: usize, nodes: usize) -> bool
-    ensures { result ≡ (ltb most_rows edges || (ltb most_rows faces || (ltb most_rows rings || ltb most_rows nodes))) }
+#[tactic(auto, unfolding(crate::specs::Check::too_many_rows))]
+fn too_many_rows(tile: &Tile) -> bool
+    ensures { result ≡ too_many_rows tile.now }
 {
-    if MOST_ROWS < edges {
-        return true;
-    }
-    if MOST_ROWS < faces {
-        return true;
-    }
-    if MOST_ROWS < rings {
-        return true;
-    }
-    MOST_ROWS < nodes
+    MOST_ROWS < tile.edges.start_node.len()
+        || MOST_ROWS < tile.ring_ptr.len()
+        || MOST_ROWS < tile.fac_id.len()
+        || MOST_ROWS < tile.first_edge.len()
 }
 
 // Slices of one table unequal, over 1,000,000 rows, or no face or no ring.
-pub(crate) fn sizes_wrong(
-    start_node: &[u32],
-    end_node: &[u32],
-    right_face: &[u32],
-    left_face: &[u32],
-    right_edge: &[u32],
-    left_edge: &[u32],
-    ring_ptr: &[u32],
-    fac_id: &[u32],
-    start_edge: &[u32],
-    first_edge: &[u32],
-) -> bool
-    ensures { result ≡ sizes_wrong (tile (edges start_node.now end_node.now right_face.now
-        left_face.now right_edge.now left_edge.now) ring_ptr.now fac_id.now
-        start_edge.now first_edge.now) }
+#[tactic(auto, unfolding(crate::specs::Check::sizes_wrong))]
+fn sizes_wrong(tile: &Tile) -> bool
+    ensures { result ≡ sizes_wrong tile.now }
 {
-    let edges = start_node.len();
-    let faces = ring_ptr.len();
-    let rings = fac_id.len();
-    if slices_unequal(
-        edges,
-        end_node.len(),
-        right_face.len(),
-        left_face.len(),
-        right_edge.len(),
-        left_edge.len(),
-        rings,
-        start_edge.len(),
-    ) {
-        return true;
+    slices_unequal(tile)
+        || too_many_rows(tile)
+        || tile.ring_ptr.is_empty()
+        || tile.fac_id.is_empty()
+}
+
+// A tile whose sizes are right, so that each row of one column of the edge table is there in all.
+#[derive(Drop)]
+pub(crate) struct SizedTile<'a> {
+    pub(crate) tile: &'a Tile<'a>,
+}
+
+impl<'a> Model for SizedTile<'a> {
+    ghost use Rattle.std.specs.Prelude.{◌≡◌, false};
+    ghost use Rattle.tile.specs.Columns.{Tile};
+    ghost use Rattle.tile.specs.Check.{sizes_wrong};
+
+    ghost Value = { Tile };
+
+    ghost view = { λ a. a.tile.now };
+
+    ghost invariant = { λ a. sizes_wrong a.tile.now ≡ false };
+}
+
+impl<'a> SizedTile<'a> {
+    // The tile, or 15 where its sizes are wrong.
+    pub(crate) fn new(tile: &'a Tile<'a>) -> Result<Self, Refusal>
+        ensures { result ≡ cond (sizes_wrong tile.now) (Err (refusal 15 0)) (Ok tile.now) }
+    {
+        if sizes_wrong(tile) {
+            return Err(Kind::OverLimit.at(0));
+        }
+        Ok(SizedTile { tile })
     }
-    if too_many(edges, faces, rings, first_edge.len()) {
-        return true;
+
+    // 2E
+    pub(crate) fn sides(&self) -> usize
+        ensures { result ≡ sides self.now }
+    {
+        let tile = self.tile;
+        2 * tile.edges.start_node.len()
     }
-    if faces == 0 {
-        return true;
+
+    // The successor of the side s.
+    #[inline(always)]
+    pub(crate) fn next_side(&self, s: usize) -> Result<usize, Kind>
+        ensures { result ≡ successor self.now.edg s }
+    {
+        let tile = self.tile;
+        tile.edges.next_side(s)
     }
-    rings == 0
 }

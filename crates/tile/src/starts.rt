@@ -1,22 +1,19 @@
 // 27 to 29: the nodes' first edges, and the rings' faces, runs and starts.
-ghost use Rattle.std.specs.Prelude.{◌≡◌, ℕ, length};
-ghost use Rattle.laws.specs.Orbit.{entry};
-ghost use Rattle.laws.specs.Lowest.{lowest};
-ghost use Rattle.refusal.specs.Order.{first_of};
-ghost use Rattle.tile.specs.Columns.{side_with, empty_allowed};
-ghost use Rattle.tile.specs.Serving.Stages.{start_missing, ring_tests};
+ghost use Rattle.std.specs.Prelude.{◌≡◌};
+ghost use Rattle.laws.specs.Lowest.{found, lowest};
+ghost use Rattle.refusal.specs.Order.{answered, first_of};
+ghost use Rattle.tile.specs.Columns.{R, side_with, start_side, empty_start};
+ghost use Rattle.tile.specs.Check.{start_wrong};
+ghost use Rattle.tile.specs.Serving.Stages.{ring_tests};
 
+use crate::rows::lowest_row;
+use crate::sizes::SizedTile;
 use crate::{columns, runs};
-use refusal::{Refusal, WRONG_FIRST_EDGE, WRONG_RING_ROWS, WRONG_START};
+use refusal::{Kind, Refusal};
 
 // The side of the edge e with the face, the right one if both have it; 0 where e is no edge or neither has it.
-pub(crate) fn side_with(
-    edges: usize,
-    right_face: &[u32],
-    left_face: &[u32],
-    face: u32,
-    e: u32,
-) -> usize
+// An Option would be no plainer: 0 is document 01's own word for no start, and the mark read and the cycle painted at 0 are those of none.
+fn side_with(edges: usize, right_face: &[u32], left_face: &[u32], face: u32, e: u32) -> usize
     ensures { result ≡ side_with edges right_face.now left_face.now face e }
 {
     let k = e as usize;
@@ -32,91 +29,55 @@ pub(crate) fn side_with(
     0
 }
 
-// Whether e is the start 0 that ring row 1 may have when its face is 1.
-fn may_be_empty(row: usize, face: u32, e: u32) -> bool
-    ensures { result ≡ empty_allowed row face e }
-{
-    if e != 0 {
-        return false;
+impl<'a> SizedTile<'a> {
+    // The start side of a ring row, or 0.
+    #[tactic(auto, unfolding(crate::specs::Columns::start_side))]
+    pub(crate) fn start_side(&self, row: usize) -> usize
+        ensures { result ≡ start_side self.now row }
+    {
+        let tile = self.tile;
+        let edges = &tile.edges;
+        side_with(
+            edges.start_node.len(),
+            edges.right_face,
+            edges.left_face,
+            side::row(tile.fac_id, row),
+            side::row(tile.start_edge, row),
+        )
     }
-    if row != 1 {
-        return false;
+
+    // Whether the ring row has the start 0 that row 1 may have when its face is 1.
+    #[tactic(auto, unfolding(crate::specs::Columns::empty_start))]
+    pub(crate) fn has_empty_start(&self, row: usize) -> bool
+        ensures { result ≡ empty_start self.now row }
+    {
+        let tile = self.tile;
+        side::row(tile.start_edge, row) == 0 && row == 1 && side::row(tile.fac_id, row) == 1
     }
-    face == 1
+
+    // Whether it has neither a start side nor the allowed 0.
+    fn has_wrong_start(&self, row: usize) -> bool
+        ensures { result ≡ start_wrong self.now row }
+    {
+        !self.has_empty_start(row) && self.start_side(row) == 0
+    }
 }
 
-// Whether the ring row, with the face and the start edge e, has neither a start side nor the allowed 0.
-pub(crate) fn has_no_start(
-    edges: usize,
-    right_face: &[u32],
-    left_face: &[u32],
-    row: usize,
-    face: u32,
-    e: u32,
-) -> bool
-    ensures { result ≡ start_missing edges right_face.now left_face.now row face e }
+// The lowest ring row with a wrong start.
+fn bad_start(tile: &SizedTile) -> Option<usize>
+    ensures { result ≡ found (lowest (start_wrong tile.now) (R tile.now)) }
 {
-    if may_be_empty(row, face, e) {
-        return false;
-    }
-    side_with(edges, right_face, left_face, face, e) == 0
-}
-
-// The lowest ring row with a wrong start, or 0.
-fn bad_start(
-    edges: usize,
-    right_face: &[u32],
-    left_face: &[u32],
-    fac_id: &[u32],
-    start_edge: &[u32],
-) -> usize
-    ensures { result ≡ lowest (λ (r : ℕ). start_missing edges right_face.now left_face.now r (entry
-        fac_id.now r) (entry start_edge.now r)) (length fac_id.now) }
-{
-    let mut i: usize = 0;
-    while i < fac_id.len() {
-        let e = side::row(start_edge, i + 1);
-        if has_no_start(edges, right_face, left_face, i + 1, fac_id[i], e) {
-            return i + 1;
-        }
-        i += 1;
-    }
-    0
+    let columns = tile.tile;
+    lowest_row(columns.fac_id.len(), |row| tile.has_wrong_start(row))
 }
 
 // 27 to 29, in order.
-pub(crate) fn judge_rings(
-    start_node: &[u32],
-    end_node: &[u32],
-    right_face: &[u32],
-    left_face: &[u32],
-    ring_ptr: &[u32],
-    fac_id: &[u32],
-    start_edge: &[u32],
-    first_edge: &[u32],
-) -> Refusal
-    ensures { result ≡ first_of (ring_tests start_node.now end_node.now right_face.now
-        left_face.now ring_ptr.now fac_id.now start_edge.now
-        first_edge.now) }
+pub(crate) fn judge_rings(tile: &SizedTile) -> Result<(), Refusal>
+    ensures { result ≡ answered (first_of (ring_tests tile.now)) }
 {
-    let faces = ring_ptr.len();
-    let a = refusal::refuse_at(
-        WRONG_FIRST_EDGE,
-        columns::bad_node(start_node, end_node, first_edge),
-    );
-    if a.number != 0 {
-        return a;
-    }
-    let b = refusal::refuse_at(WRONG_RING_ROWS, columns::bad_entry(faces, fac_id));
-    if b.number != 0 {
-        return b;
-    }
-    let c = refusal::refuse_at(WRONG_RING_ROWS, runs::bad_run(ring_ptr, fac_id));
-    if c.number != 0 {
-        return c;
-    }
-    refusal::refuse_at(
-        WRONG_START,
-        bad_start(start_node.len(), right_face, left_face, fac_id, start_edge),
-    )
+    let columns = tile.tile;
+    Kind::WrongFirstEdge.at_lowest(columns::bad_node(columns))?;
+    Kind::WrongRingRows.at_lowest(columns::bad_entry(columns.ring_ptr.len(), columns.fac_id))?;
+    Kind::WrongRingRows.at_lowest(runs::bad_run(columns.ring_ptr, columns.fac_id))?;
+    Kind::WrongStart.at_lowest(bad_start(tile))
 }

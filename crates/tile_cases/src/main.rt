@@ -6,11 +6,12 @@
 
 ghost use Rattle.std.specs.Prelude.{◌≤◌};
 
-use casefile::{FILE_ROOM, say, say_number, say_refusal};
+use casefile::{FILE_ROOM, Fields, say, say_number, say_refusal};
 use number::Order;
+use side::Edges;
 use std::io;
 use std::io::{BufWriter, Write};
-use tile::{Verdict, Walked};
+use tile::Tile;
 
 // What marks and outputs hold before, and the most of them that a case has lent.
 const BEFORE: u32 = 7;
@@ -20,27 +21,7 @@ const MOST_LENT: usize = 48;
 // The most numbers of a case.
 const MOST_NUMBERS: usize = 256;
 
-// The columns of a case; those of the tile in document 01's order.
-const START_NODE: usize = 0;
-
-const END_NODE: usize = 1;
-
-const RIGHT_FACE: usize = 2;
-
-const LEFT_FACE: usize = 3;
-
-const RIGHT_EDGE: usize = 4;
-
-const LEFT_EDGE: usize = 5;
-
-const RING_PTR: usize = 6;
-
-const FAC_ID: usize = 7;
-
-const START_EDGE: usize = 8;
-
-const FIRST_EDGE: usize = 9;
-
+// The columns of a case: those of the tile in document 01's order, and then these.
 const SPACE: usize = 10;
 
 const WALKS: usize = 11;
@@ -57,17 +38,9 @@ fn say_numbers(out: &mut impl Write, numbers: &[u32]) -> io::Result<()> {
     Ok(())
 }
 
-fn wide(n: u32) -> usize {
-    n as usize
-}
-
 // The number at a place, or 0 past the end.
 fn entry(numbers: &[u32], at: usize) -> usize {
-    if at < numbers.len() {
-        wide(numbers[at])
-    } else {
-        0
-    }
+    numbers.get(at).map_or(0, |&n| n as usize)
 }
 
 // A column of the case; nothing where it does not lie among the numbers.
@@ -90,59 +63,51 @@ fn column(numbers: &[u32], which: usize) -> &[u32]
 fn lent(asked: usize) -> usize
     ensures { result ≤ 48 }
 {
-    if asked < MOST_LENT { asked } else { MOST_LENT }
+    asked.min(MOST_LENT)
 }
 
-fn check(out: &mut impl Write, t: &[u32], marks: &mut [u32]) -> io::Result<()> {
+fn tile_of(numbers: &[u32]) -> Tile {
+    Tile {
+        edges: Edges {
+            start_node: column(numbers, 0),
+            end_node: column(numbers, 1),
+            right_face: column(numbers, 2),
+            left_face: column(numbers, 3),
+            right_edge: column(numbers, 4),
+            left_edge: column(numbers, 5),
+        },
+        ring_ptr: column(numbers, 6),
+        fac_id: column(numbers, 7),
+        start_edge: column(numbers, 8),
+        first_edge: column(numbers, 9),
+    }
+}
+
+fn check(out: &mut impl Write, tile: &Tile, marks: &mut [u32]) -> io::Result<()> {
     say(out, b"marks")?;
     say_numbers(out, marks)?;
     say(out, b", ")?;
-    match tile::check(
-        column(t, START_NODE),
-        column(t, END_NODE),
-        column(t, RIGHT_FACE),
-        column(t, LEFT_FACE),
-        column(t, RIGHT_EDGE),
-        column(t, LEFT_EDGE),
-        column(t, RING_PTR),
-        column(t, FAC_ID),
-        column(t, START_EDGE),
-        column(t, FIRST_EDGE),
-        marks,
-    ) {
-        Verdict::Accepted => say(out, b"accepted")?,
-        Verdict::Refused(bad) => say_refusal(out, bad)?,
+    match tile::check(tile, marks) {
+        Ok(()) => say(out, b"accepted")?,
+        Err(bad) => say_refusal(out, bad)?,
     }
     say(out, b", marks")?;
     say_numbers(out, marks)?;
     say(out, b"\n")
 }
 
-fn walk(out: &mut impl Write, t: &[u32], row: usize, steps: &mut [u32]) -> io::Result<()> {
+fn walk(out: &mut impl Write, tile: &Tile, row: usize, steps: &mut [u32]) -> io::Result<()> {
     say(out, b"  ring ")?;
     say_number(out, row as u64)?;
     say(out, b" into")?;
     say_numbers(out, steps)?;
     say(out, b": ")?;
-    match tile::walk(
-        column(t, START_NODE),
-        column(t, END_NODE),
-        column(t, RIGHT_FACE),
-        column(t, LEFT_FACE),
-        column(t, RIGHT_EDGE),
-        column(t, LEFT_EDGE),
-        column(t, RING_PTR),
-        column(t, FAC_ID),
-        column(t, START_EDGE),
-        column(t, FIRST_EDGE),
-        row,
-        steps,
-    ) {
-        Walked::Steps(n) => {
+    match tile::walk(tile, row, steps) {
+        Ok(n) => {
             say_number(out, n as u64)?;
             say(out, b" steps")?;
         }
-        Walked::Refused(bad) => say_refusal(out, bad)?,
+        Err(bad) => say_refusal(out, bad)?,
     }
     say(out, b", written")?;
     say_numbers(out, steps)?;
@@ -150,33 +115,33 @@ fn walk(out: &mut impl Write, t: &[u32], row: usize, steps: &mut [u32]) -> io::R
 }
 
 // One walk, over an output of its own.
-fn walk_into(out: &mut impl Write, t: &[u32], row: usize, room: usize) -> io::Result<()> {
+fn walk_into(out: &mut impl Write, tile: &Tile, row: usize, room: usize) -> io::Result<()> {
     let mut steps = [BEFORE; MOST_LENT];
     let n = lent(room);
-    walk(out, t, row, &mut steps[0..n])
+    walk(out, tile, row, &mut steps[0..n])
 }
 
 // The walks of a case: a ring row and the length of the output in turn.
-fn walk_all(out: &mut impl Write, t: &[u32], walks: &[u32]) -> io::Result<()> {
+fn walk_all(out: &mut impl Write, tile: &Tile, walks: &[u32]) -> io::Result<()> {
     for asked in walks.chunks_exact(2) {
-        walk_into(out, t, entry(asked, 0), entry(asked, 1))?;
+        walk_into(out, tile, entry(asked, 0), entry(asked, 1))?;
     }
     Ok(())
 }
 
 // A tile: checked, then walked.
 fn run_tile(out: &mut impl Write, numbers: &[u32; 256]) -> io::Result<()> {
-    let t: &[u32] = numbers;
+    let tile = tile_of(numbers);
     let mut marks = [BEFORE; MOST_LENT];
-    let space = lent(entry(column(t, SPACE), 0));
-    check(out, t, &mut marks[0..space])?;
-    walk_all(out, t, column(t, WALKS))
+    let space = lent(entry(column(numbers, SPACE), 0));
+    check(out, &tile, &mut marks[0..space])?;
+    walk_all(out, &tile, column(numbers, WALKS))
 }
 
 // The numbers that the bytes say; 0 past their end.
 fn decode(bytes: &[u8], numbers: &mut [u32; 256]) {
-    for i in 0..MOST_NUMBERS {
-        numbers[i] = number::read4(bytes, 4 * i, Order::Least);
+    for (i, n) in numbers.iter_mut().enumerate() {
+        *n = number::read::<u32>(bytes, 4 * i, Order::Least);
     }
 }
 
@@ -189,10 +154,8 @@ fn run_case(out: &mut impl Write, case: &[u8]) -> io::Result<()> {
 }
 
 fn run(out: &mut impl Write, file: &[u8]) -> io::Result<()> {
-    let mut at = 0;
-    while at < file.len() {
-        run_case(out, casefile::field(file, at))?;
-        at = casefile::after(file, at);
+    for case in Fields::new(file) {
+        run_case(out, case)?;
     }
     Ok(())
 }

@@ -1,10 +1,12 @@
 -- What can be said of a read: the bytes themselves are the operating system's.
-use Rattle.std.specs.Prelude.{ℕ, ◌≤◌}
-use Rattle.tilecheck.specs.declared.Part.{Part}
-use Rattle.tilecheck.specs.declared.Part.TheVariants.{Bytes, Interrupted, Failed}
+use Rattle.std.specs.Prelude.{ℕ, ◌≤◌, Result, Ok, Err, Option, Some, None}
+use Rattle.tilecheck.specs.declared.Unread.{Unread}
 
 -- a read gives no more bytes than there is room for
-abbrev pub Within : Part → ℕ → Type 0
-Within (Bytes n) room = n ≤ room
-Within Interrupted room = Unit {0}
-Within Failed room = Unit {0}
+abbrev pub Within : Result ℕ Unread → ℕ → Type 0
+Within (Ok n) room = n ≤ room
+Within (Err e) room = Unit {0}
+
+abbrev pub WithinIf : Option ℕ → ℕ → Type 0
+WithinIf (Some n) room = n ≤ room
+WithinIf None room = Unit {0}

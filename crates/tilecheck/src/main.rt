@@ -2,9 +2,9 @@
 #![tactic(auto)]
 
 ghost use Rattle.std.specs.Prelude.{◌≤◌, ◌+◌, ◌-◌, length};
-ghost use Rattle.tilecheck.specs.Reading.{Within};
+ghost use Rattle.tilecheck.specs.Reading.{Within, WithinIf};
 
-use directory::Sizes;
+use directory::{Directory, Sizes};
 use limits::MOST_BYTES;
 use report::FileName;
 use std::io::{ErrorKind, Read, Write};
@@ -15,51 +15,46 @@ use teller::TEXT_SPACE;
 // How many interrupted reads of a file are tried again.
 const MOST_TRIES: usize = 100;
 
-// What a read gives: so many bytes, none at the file's end; or a signal came before the first; or it failed.
+// Why a read gave nothing: a signal came before the first byte, or it failed.
 #[derive(Clone, Copy)]
-enum Part {
-    Bytes(usize),
+enum Unread {
     Interrupted,
     Failed,
 }
 
-// One read of a file, to the bytes of the buffer from a place on.
-fn read_part(file: &mut impl Read, buf: &mut [u8], at: usize) -> Part
+// One read of a file, to the bytes of the buffer from a place on: how many, none at the file's end.
+fn read_part(file: &mut impl Read, buf: &mut [u8], at: usize) -> Result<usize, Unread>
     requires { at ≤ length buf.old }
     ensures { Within result (length buf.old - at) }
 {
     match file.read(&mut buf[at..]) {
-        Ok(n) => Part::Bytes(n),
-        Err(e) if e.kind() == ErrorKind::Interrupted => Part::Interrupted,
-        Err(_) => Part::Failed,
+        Ok(n) => Ok(n),
+        Err(e) if e.kind() == ErrorKind::Interrupted => Err(Unread::Interrupted),
+        Err(_) => Err(Unread::Failed),
     }
 }
 
-// Reads an open file to its end, or until the buffer is full: how many bytes, or that it cannot be read, whatever came before a read that
-// fails.
-fn read_whole(file: &mut impl Read, buf: &mut [u8]) -> Part
-    ensures { Within result (length buf.old) }
+// Reads an open file to its end, or until the buffer is full: how many bytes, or nothing where it cannot be read, whatever came before a
+// read that fails.
+fn read_whole(file: &mut impl Read, buf: &mut [u8]) -> Option<usize>
+    ensures { WithinIf result (length buf.old) }
 {
     let mut at = 0;
     let mut tries = MOST_TRIES;
     while at < buf.len() {
         match read_part(file, buf, at) {
-            Part::Bytes(n) => {
-                if n == 0 {
-                    return Part::Bytes(at);
-                }
-                at += n;
-            }
-            Part::Interrupted => {
+            Ok(0) => return Some(at),
+            Ok(n) => at += n,
+            Err(Unread::Interrupted) => {
                 if tries == 0 {
-                    return Part::Failed;
+                    return None;
                 }
                 tries -= 1;
             }
-            Part::Failed => return Part::Failed,
+            Err(Unread::Failed) => return None,
         }
     }
-    Part::Bytes(at)
+    Some(at)
 }
 
 // Reads an open file into the buffer: how many bytes it has, or one more than the buffer holds where it has more. One that cannot be read
@@ -67,14 +62,14 @@ fn read_whole(file: &mut impl Read, buf: &mut [u8]) -> Part
 fn read_open(file: &mut impl Read, buf: &mut [u8]) -> usize
     ensures { result ≤ length buf.old + 1 }
 {
-    let Part::Bytes(n) = read_whole(file, buf) else {
+    let Some(n) = read_whole(file, buf) else {
         return 0;
     };
     if n < buf.len() {
         return n;
     }
     let mut beyond = [0u8; 1];
-    let Part::Bytes(more) = read_whole(file, &mut beyond) else {
+    let Some(more) = read_whole(file, &mut beyond) else {
         return 0;
     };
     n + more
@@ -94,17 +89,9 @@ fn read_file(files: &impl Files, file: FileName, buf: &mut [u8; MOST_BYTES]) -> 
     read_open(&mut opened, buf)
 }
 
-// The first bytes of the buffer, as many as there are.
-fn front<'a>(buf: &'a [u8], size: usize) -> &'a [u8] {
-    if buf.len() < size {
-        return buf;
-    }
-    &buf[0..size]
-}
-
-// What was read of a file of this size.
-fn lent<'a>(buf: &'a [u8; MOST_BYTES], size: usize) -> &'a [u8] {
-    front(buf, size)
+// What was read of a file of this size: as many bytes as the buffer holds of it.
+fn lent(buf: &[u8], size: usize) -> &[u8] {
+    buf.get(..size).unwrap_or(buf)
 }
 
 // "cnx if K occurs": it is read only beside a cnd that shows K.
@@ -118,18 +105,9 @@ fn read_node_index(files: &impl Files, cnd: &[u8], buf: &mut [u8; MOST_BYTES]) -
 }
 
 // Writes the text of the six files, each with its size.
-fn write_text(
-    out: &mut impl Write,
-    sizes: Sizes,
-    edg: &[u8],
-    edx: &[u8],
-    fac: &[u8],
-    rng: &[u8],
-    cnd: &[u8],
-    cnx: &[u8],
-) -> io::Result<()> {
+fn write_text(out: &mut impl Write, sizes: Sizes, lent: &Directory) -> io::Result<()> {
     let mut text = [0u8; TEXT_SPACE];
-    let n = teller::tell_tile(sizes, edg, edx, fac, rng, cnd, cnx, &mut text);
+    let n = teller::tell_tile(sizes, lent, &mut text);
     out.write_all(&text[0..n])
 }
 
@@ -155,14 +133,13 @@ fn main(rt: HostRuntime) -> io::Result<()> {
         cnd: of_cnd,
         cnx: of_cnx,
     };
-    write_text(
-        &mut io::writer(&rt),
-        sizes,
-        lent(&edg, of_edg),
-        lent(&edx, of_edx),
-        lent(&fac, of_fac),
-        lent(&rng, of_rng),
-        nodes,
-        lent(&cnx, of_cnx),
-    )
+    let files = Directory {
+        edg: lent(&edg, of_edg),
+        edx: lent(&edx, of_edx),
+        fac: lent(&fac, of_fac),
+        rng: lent(&rng, of_rng),
+        cnd: nodes,
+        cnx: lent(&cnx, of_cnx),
+    };
+    write_text(&mut io::writer(&rt), sizes, &files)
 }

@@ -4,29 +4,20 @@ use mathlib.Core.Bool.{Bool, true, false, cond}
 use Prim.Native.Nat.{ℕ, zero, suc, ◌+◌, ◌*◌, ◌/◌, ◌%◌, ◌^◌, ◌≤◌, ◌<◌}
 use native.Mathlib.Omega.{arith}
 use native.Mathlib.Nat.{div-add-mod', div-div-eq-div-mul, mod-eq_of_lt, mul-add-mod_self_right}
-use lib.Dec.{ltb, eqb, lit<}
-use borrow.Author.Tests.{eqb-true, eqb-false, ltb-true, ltb-false}
+use lib.Dec.{ltb, eqb}
+use borrow.Author.Tests.{eqb-false, ltb-false}
+use Rattle.std.proofs.lemmas.Bool.Decides.{nat_tests}
 use Rattle.triplet.specs.Triplet.{largest_part, absent, width_of, id_code, tile_code, other_code, reserved_bits}
 use Rattle.triplet.specs.Written.{past_one_byte, past_two_bytes, code_for, width_for, type_byte}
 use Rattle.triplet.specs.Words.{Holds}
 
 -- a code says at most four bytes
 pub width_most : (c : ℕ) → c < 4 → width_of c ≤ 4
-width_most zero l = omega arith
-width_most (suc zero) l = omega arith
-width_most (suc (suc zero)) l = omega arith
-width_most (suc (suc (suc zero))) l = omega arith
-width_most (suc (suc (suc (suc c)))) l = absurd (omega arith)
+width_most c l = grind (arith, nat_tests)
 
 -- the shortest form holds the part
 pub shortest_holds : (v : ℕ) → v ≤ largest_part → Holds (code_for v) v
-shortest_holds v m = go (eqb v absent) (ltb v past_one_byte) (ltb v past_two_bytes) refl refl refl
-  where
-    go : (x y z : Bool) → eqb v absent ≡ x → ltb v past_one_byte ≡ y → ltb v past_two_bytes ≡ z → Holds (cond x 0 (cond y 1 (cond z 2 3))) v
-    go true y z e f g = record { code = lit< tt; fits = omega (arith, eqb-true v absent e) }
-    go false true z e f g = record { code = lit< tt; fits = omega (arith, ltb-true v past_one_byte f) }
-    go false false true e f g = record { code = lit< tt; fits = omega (arith, ltb-true v past_two_bytes g) }
-    go false false false e f g = record { code = lit< tt; fits = omega arith }
+shortest_holds v m = record { code = grind (arith, nat_tests); fits = grind (arith, nat_tests) }
 
 -- and no form that holds it is shorter
 pub shortest_least : (v c : ℕ) → Holds c v → width_for v ≤ width_of c

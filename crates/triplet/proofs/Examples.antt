@@ -1,18 +1,17 @@
 -- P3 to P5 of document 01, the triplets of documents 002 and 001, and the edges of the rules, computed from the definitions:
 -- one table under a single statement.
-use mathlib.Core.Path.{◌≡◌, refl}
+use borrow.Author.Rules.{rules}
+use mathlib.Core.Path.{◌≡◌}
 use mathlib.Core.List.{List, [], ◌∷◌}
 use Prim.Native.Nat.{ℕ}
 use lib.ListN.{length}
+use Rattle.std.specs.Prelude.{Ok, Err}
 use Rattle.number.specs.declared.Order.{Order}
 use Rattle.number.specs.declared.Order.TheVariants.{Least, Most}
 use Rattle.number.specs.Bytes.{value, bytes_of, number}
 use Rattle.refusal.specs.Order.{refusal, first, located}
-use Rattle.triplet.specs.declared.Triplet.TheVariants.{Is}
-use Rattle.triplet.specs.declared.Written.{Written}
-use Rattle.triplet.specs.declared.Written.TheVariants.{Bytes, Refused}
-use Rattle.triplet.specs.Triplet.{bad_triplet, ids, bad_at, part_at, parts_of, triplet_of}
-use Rattle.triplet.specs.Written.{no_such_place, too_short, width_for, form, encoded, size_of, written_of}
+use Rattle.triplet.specs.Triplet.{triplet, bad_triplet, ids, bad_at, part_at, parts_of, triplet_of}
+use Rattle.triplet.specs.Written.{Written, no_such_place, too_short, width_for, form, encoded, size_of, written_of}
 
 -- the parts of a triplet
 abbrev pub Three : Type 0
@@ -29,8 +28,8 @@ pub data Example : Type 0 where
   writing : ℕ → ℕ → Three → Written → Example
 
 abbrev pub Computes : Example → Type 0
-Computes (both_ways o (a, b, c) s) = (encoded o (ids a b c) ≡ s) × (triplet_of o s ≡ Is (ids a b c) (length s))
-Computes (longer o s (a, b, c)) = triplet_of o s ≡ Is (ids a b c) (length s)
+Computes (both_ways o (a, b, c) s) = (encoded o (ids a b c) ≡ s) × (triplet_of o s ≡ Ok (triplet (ids a b c) (length s)))
+Computes (longer o s (a, b, c)) = triplet_of o s ≡ Ok (triplet (ids a b c) (length s))
 Computes (bad o s p) = triplet_of o s ≡ bad_at p
 Computes (writing len at (a, b, c) r) = written_of len at (ids a b c) ≡ r
 
@@ -72,85 +71,13 @@ table =
     ∷ bad Least (0x54 ∷ 0x01 ∷ 0x02 ∷ []) 3
     ∷ bad Least (0xD0 ∷ 0x00 ∷ 0x00 ∷ 0x00 ∷ 0x80 ∷ []) 1
     -- the writer: room to the last byte; the lowest part too large, before the place; the place, before room; room
-    ∷ writing 10 5 (6, 260, 210) (Bytes 5)
-    ∷ writing 10 11 (1, 2147483648, 4294967295) (Refused (refusal bad_triplet 2))
-    ∷ writing 10 11 (6, 260, 210) (Refused (refusal no_such_place 11))
-    ∷ writing 10 10 (0, 0, 0) (Refused (refusal too_short 11))
-    ∷ writing 10 6 (6, 260, 210) (Refused (refusal too_short 11))
+    ∷ writing 10 5 (6, 260, 210) (Ok 5)
+    ∷ writing 10 11 (1, 2147483648, 4294967295) (Err (refusal bad_triplet 2))
+    ∷ writing 10 11 (6, 260, 210) (Err (refusal no_such_place 11))
+    ∷ writing 10 10 (0, 0, 0) (Err (refusal too_short 11))
+    ∷ writing 10 6 (6, 260, 210) (Err (refusal too_short 11))
     ∷ []
 
 pub examples : All table
 unfolding value bytes_of number first located part_at parts_of triplet_of width_for form encoded size_of written_of
-examples = (
-  (refl, refl),
-  (
-    (refl, refl),
-    (
-      (refl, refl),
-      (
-        refl,
-        (
-          (refl, refl),
-          (
-            (refl, refl),
-            (
-              (refl, refl),
-              (
-                (refl, refl),
-                (
-                  (refl, refl),
-                  (
-                    (
-                      refl,
-                      refl,
-                    ),
-                    (
-                      (refl, refl),
-                      (
-                        (refl, refl),
-                        (
-                          (refl, refl),
-                          (
-                            (refl, refl),
-                            (
-                              (refl, refl),
-                              (
-                                (refl, refl),
-                                (
-                                  refl,
-                                  (
-                                    refl,
-                                    (
-                                      refl,
-                                      (
-                                        refl,
-                                        (
-                                          refl,
-                                          (
-                                            refl,
-                                            (
-                                              refl,
-                                              (refl, (refl, (refl, (refl, (refl, tt))))),
-                                            ),
-                                          ),
-                                        ),
-                                      ),
-                                    ),
-                                  ),
-                                ),
-                              ),
-                            ),
-                          ),
-                        ),
-                      ),
-                    ),
-                  ),
-                ),
-              ),
-            ),
-          ),
-        ),
-      ),
-    ),
-  ),
-)
+examples = search rules

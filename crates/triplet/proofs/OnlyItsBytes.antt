@@ -5,18 +5,18 @@ use Prim.Native.Nat.{ℕ, ◌+◌, ◌≤◌}
 use native.Mathlib.Omega.{arith}
 use lib.ListN.{length, take, drop, length-append, take-append-drop, get_or-append}
 use lib.Seq.{length-take-le, get_or-take}
+use Rattle.std.specs.Prelude.{Ok}
 use Rattle.number.specs.declared.Order.{Order}
 use Rattle.number.specs.Bytes.{number}
 use Rattle.number.proofs.NumberLaws.{number_front}
 use Rattle.triplet.specs.declared.Ids.{Ids}
-use Rattle.triplet.specs.declared.Triplet.TheVariants.{Is}
-use Rattle.triplet.specs.Triplet.{triplet_of, id_code, tile_code, other_code}
+use Rattle.triplet.specs.Triplet.{triplet, triplet_of, id_code, tile_code, other_code}
 use Rattle.triplet.specs.Words.{PartIs, type_of, id_width, tile_width, other_width, tile_place, other_place}
 use Rattle.triplet.proofs.CodeLaws.{width_most}
 use Rattle.triplet.proofs.ReadExactly.{read_exactly}
 
 -- WITHIN ITS BYTES, 1 to 13 of them
-pub within : (o : Order) (s : List ℕ) (t : Ids) (n : ℕ) → triplet_of o s ≡ Is t n → (n ≤ length s) × (1 ≤ n) × (n ≤ 13)
+pub within : (o : Order) (s : List ℕ) (t : Ids) (n : ℕ) → triplet_of o s ≡ Ok (triplet t n) → (n ≤ length s) × (1 ≤ n) × (n ≤ 13)
 within o s t n e =
     let h = (read_exactly o s t n).0 e in
     let b = type_of s in (
@@ -41,7 +41,7 @@ part_stays o s ys n at w v l i p =
     }
 
 -- BYTES AFTER THE TRIPLET DO NOT MATTER, whatever they are
-pub rest_free : (o : Order) (s ys : List ℕ) (t : Ids) (n : ℕ) → triplet_of o s ≡ Is t n → triplet_of o (take n s ++ ys) ≡ Is t n
+pub rest_free : (o : Order) (s ys : List ℕ) (t : Ids) (n : ℕ) → triplet_of o s ≡ Ok (triplet t n) → triplet_of o (take n s ++ ys) ≡ Ok (triplet t n)
 rest_free o s ys t n e =
     let h = (read_exactly o s t n).0 e in
     let k = within o s t n e in
@@ -57,5 +57,5 @@ rest_free o s ys t n e =
     })
 
 -- its own bytes alone give it
-pub own_bytes : (o : Order) (s : List ℕ) (t : Ids) (n : ℕ) → triplet_of o s ≡ Is t n → triplet_of o (take n s) ≡ Is t n
+pub own_bytes : (o : Order) (s : List ℕ) (t : Ids) (n : ℕ) → triplet_of o s ≡ Ok (triplet t n) → triplet_of o (take n s) ≡ Ok (triplet t n)
 own_bytes o s t n e = ap (triplet_of o) (sym (append-nil (take n s))) ∙ rest_free o s [] t n e

@@ -8,6 +8,7 @@ use native.Mathlib.Omega.{arith}
 use lib.Dec.{eqb, ltb}
 use lib.ListN.{length}
 use borrow.Author.Tests.{eqb-true, eqb-false, ltb-true, ltb-false, eq-eqb, ne_eqb, le-ltb}
+use Rattle.std.specs.Prelude.{Some, None, Ok, Err}
 use Rattle.laws.proofs.LowestLaws.{bool_cases}
 use Rattle.number.specs.declared.Order.{Order}
 use Rattle.number.specs.Bytes.{number}
@@ -15,18 +16,15 @@ use Rattle.number.proofs.NumberLaws.{number_nothing}
 use Rattle.refusal.specs.declared.Refusal.{Refusal}
 use Rattle.refusal.specs.Order.{refusal}
 use Rattle.triplet.specs.declared.Ids.{Ids}
-use Rattle.triplet.specs.declared.Part.{Part}
-use Rattle.triplet.specs.declared.Part.TheVariants.{Reads, Bad}
 use Rattle.triplet.specs.declared.Triplet.{Triplet}
-use Rattle.triplet.specs.declared.Triplet.TheVariants.{Is, Refused}
-use Rattle.triplet.specs.Triplet.{bad_triplet, largest_part, absent, reserved_bits, part_at, ids, bad_at, on_part, parts_of, triplet_of}
+use Rattle.triplet.specs.Triplet.{Part, Reading, triplet, bad_triplet, largest_part, absent, reserved_bits, part_at, ids, bad_at, on_part, parts_of, triplet_of}
 use Rattle.triplet.specs.Words.{PartIs, PartBad, TypeByte, BeginsWith, BadAt, type_byte_bad, id_bad, tile_bad, other_bad, type_of}
 use Rattle.triplet.specs.Words.{id_width, tile_width, other_width, tile_place, other_place, end_place}
 
 -- ---- a part
 
 -- a part that is there is read
-pub part_reads : (o : Order) (s : List ℕ) (at w v : ℕ) → PartIs o s at w v → part_at o s at w ≡ Reads v
+pub part_reads : (o : Order) (s : List ℕ) (at w v : ℕ) → PartIs o s at w v → part_at o s at w ≡ Some v
 unfolding part_at
 part_reads o s at w v p =
     bool_cases (eqb w 0)
@@ -37,15 +35,15 @@ part_reads o s at w v p =
 
 -- one that is not, is not
 data Seen (o : Order) (s : List ℕ) (at w : ℕ) : Part → Type 0 where
-  seen : {v : ℕ} → PartIs o s at w v → Seen o s at w (Reads v)
-  unseen : PartBad o s at w → Seen o s at w Bad
+  seen : {v : ℕ} → PartIs o s at w v → Seen o s at w (Some v)
+  unseen : PartBad o s at w → Seen o s at w None
 
 look : (o : Order) (s : List ℕ) (at w : ℕ) → at ≤ length s → Seen o s at w (part_at o s at w)
 unfolding part_at
 look o s at w h = go (eqb w 0) (ltb (length s) (at + w)) (ltb largest_part (number o s at w)) refl refl refl
   where
     go : (x y z : Bool) → eqb w 0 ≡ x → ltb (length s) (at + w) ≡ y → ltb largest_part (number o s at w) ≡ z
-        → Seen o s at w (cond x (Reads absent) (cond y Bad (cond z Bad (Reads (number o s at w)))))
+        → Seen o s at w (cond x (Some absent) (cond y None (cond z None (Some (number o s at w)))))
     go true y z e f g =
         let q = eqb-true w 0 e in
         seen (record { inside = omega arith; says = ap (number o s at) q ∙ number_nothing o s at; small = omega arith })
@@ -58,10 +56,10 @@ look o s at w h = go (eqb w 0) (ltb (length s) (at + w)) (ltb largest_part (numb
       small = ltb-false largest_part (number o s at w) g;
     })
 
-part_bad : (o : Order) (s : List ℕ) (at w : ℕ) → at ≤ length s → PartBad o s at w → part_at o s at w ≡ Bad
+part_bad : (o : Order) (s : List ℕ) (at w : ℕ) → at ≤ length s → PartBad o s at w → part_at o s at w ≡ None
 part_bad o s at w h n = go (look o s at w h)
   where
-    go : {r : Part} → Seen o s at w r → r ≡ Bad
+    go : {r : Part} → Seen o s at w r → r ≡ None
     go (seen {v} p) = absurd (n v p)
     go (unseen p) = refl
 
@@ -73,26 +71,26 @@ unfolding triplet_of
 parts_next o s b = rw (ne_eqb (length s) 0 (λ e. omega (arith, b.there)), eq-eqb (reserved_bits (type_of s)) 0 b.reserved)
 
 -- the answer beside what it says
-data Answer (o : Order) (s : List ℕ) : Triplet → Type 0 where
-  begins : {u : Ids} {m : ℕ} → BeginsWith o s u m → Answer o s (Is u m)
+data Answer (o : Order) (s : List ℕ) : Reading → Type 0 where
+  begins : {u : Ids} {m : ℕ} → BeginsWith o s u m → Answer o s (Ok (triplet u m))
   bad : {p : ℕ} → BadAt o s p → Answer o s (bad_at p)
 
 module _ (o : Order) (s : List ℕ) (b : TypeByte s) where
   on_other : {a c : ℕ} → PartIs o s 1 (id_width s) a → PartIs o s (tile_place s) (tile_width s) c → {r : Part}
       → Seen o s (other_place s) (other_width s) r
-      → Answer o s (on_part (other_place s) r (λ d. Is (ids a c d) (end_place s)))
+      → Answer o s (on_part (other_place s) r (λ d. Ok (triplet (ids a c d) (end_place s))))
   on_other p q (seen r) = begins (record { type_byte = b; id = p; tile = q; other = r; long = refl })
   on_other p q (unseen r) = bad (other_bad b p q r)
 
   on_tile : {a : ℕ} → PartIs o s 1 (id_width s) a → {r : Part} → Seen o s (tile_place s) (tile_width s) r
       → Answer o s (on_part (tile_place s) r (λ c.
-      on_part (other_place s) (part_at o s (other_place s) (other_width s)) (λ d. Is (ids a c d) (end_place s))))
+      on_part (other_place s) (part_at o s (other_place s) (other_width s)) (λ d. Ok (triplet (ids a c d) (end_place s)))))
   on_tile p (seen q) = on_other p q (look o s (other_place s) (other_width s) q.inside)
   on_tile p (unseen q) = bad (tile_bad b p q)
 
   on_id : {r : Part} → Seen o s 1 (id_width s) r
       → Answer o s (on_part 1 r (λ a. on_part (tile_place s) (part_at o s (tile_place s) (tile_width s))
-      (λ c. on_part (other_place s) (part_at o s (other_place s) (other_width s)) (λ d. Is (ids a c d) (end_place s)))))
+      (λ c. on_part (other_place s) (part_at o s (other_place s) (other_width s)) (λ d. Ok (triplet (ids a c d) (end_place s))))))
   on_id (seen p) = on_tile p (look o s (tile_place s) (tile_width s) p.inside)
   on_id (unseen p) = bad (id_bad b p)
 
@@ -112,14 +110,15 @@ answer o s = go (eqb (length s) 0) (eqb (reserved_bits (type_of s)) 0) refl refl
     go false false e f = bad (type_byte_bad (λ b. eqb-false (reserved_bits (type_of s)) 0 f b.reserved))
 
 -- THE TRIPLET IS READ EXACTLY WHEN the bytes begin with it
-begins_with : (o : Order) (s : List ℕ) (t : Ids) (n : ℕ) {r : Triplet} → Answer o s r → r ≡ Is t n → BeginsWith o s t n
+begins_with : (o : Order) (s : List ℕ) (t : Ids) (n : ℕ) {r : Reading} → Answer o s r → r ≡ Ok (triplet t n) → BeginsWith o s t n
 begins_with o s t n (begins {u} {m} h) e =
-    let x : u ≡ t = cc in
-    let y : m ≡ n = cc in
+    let same : triplet u m ≡ triplet t n = cc in
+    let x : u ≡ t = ap (λ (r : Triplet). r.ids) same in
+    let y : m ≡ n = ap (λ (r : Triplet). r.bytes) same in
     rw (← x, ← y) h
-begins_with o s t n (bad h) e = let z : ◌≡◌ {A = ℕ} 0 1 = cc in absurd (omega arith)
+begins_with o s t n (bad h) e = let no : ⊥ = cc in absurd no
 
-is_read : (o : Order) (s : List ℕ) (t : Ids) (n : ℕ) → BeginsWith o s t n → triplet_of o s ≡ Is t n
+is_read : (o : Order) (s : List ℕ) (t : Ids) (n : ℕ) → BeginsWith o s t n → triplet_of o s ≡ Ok (triplet t n)
 unfolding parts_of
 is_read o s t n h =
     parts_next o s h.type_byte
@@ -130,18 +129,18 @@ is_read o s t n h =
       h.long,
     )
 
-pub read_exactly : (o : Order) (s : List ℕ) (t : Ids) (n : ℕ) → (triplet_of o s ≡ Is t n) ↔ BeginsWith o s t n
+pub read_exactly : (o : Order) (s : List ℕ) (t : Ids) (n : ℕ) → (triplet_of o s ≡ Ok (triplet t n)) ↔ BeginsWith o s t n
 read_exactly o s t n = (begins_with o s t n (answer o s), is_read o s t n)
 
 -- IT IS REFUSED AT A PLACE EXACTLY WHEN the bytes are bad there, and with 11 always
-bad_there : (o : Order) (s : List ℕ) (q : Refusal) {r : Triplet} → Answer o s r → r ≡ Refused q
+bad_there : (o : Order) (s : List ℕ) (q : Refusal) {r : Reading} → Answer o s r → r ≡ Err q
     → (q ≡ refusal bad_triplet q.place) × BadAt o s q.place
-bad_there o s q (begins h) e = let z : ◌≡◌ {A = ℕ} 0 1 = cc in absurd (omega arith)
+bad_there o s q (begins h) e = let no : ⊥ = cc in absurd no
 bad_there o s q (bad {p} h) e =
     let x : refusal bad_triplet p ≡ q = cc in
     rw (← x) (refl, h)
 
-no_type_byte : (o : Order) (s : List ℕ) → (TypeByte s → ⊥) → {r : Triplet} → Answer o s r → r ≡ bad_at 0
+no_type_byte : (o : Order) (s : List ℕ) → (TypeByte s → ⊥) → {r : Reading} → Answer o s r → r ≡ bad_at 0
 no_type_byte o s no_byte (begins h) = absurd (no_byte h.type_byte)
 no_type_byte o s no_byte (bad (type_byte_bad h)) = refl
 no_type_byte o s no_byte (bad (id_bad b h)) = absurd (no_byte b)
@@ -163,5 +162,5 @@ is_refused o s p (other_bad {a} {c} b x y h) =
     )
 
 pub refused-exactly : (o : Order) (s : List ℕ) (q : Refusal)
-    → (triplet_of o s ≡ Refused q) ↔ ((q ≡ refusal bad_triplet q.place) × BadAt o s q.place)
-refused-exactly o s q = (bad_there o s q (answer o s), λ h. is_refused o s q.place h.1 ∙ ap Refused (sym h.0))
+    → (triplet_of o s ≡ Err q) ↔ ((q ≡ refusal bad_triplet q.place) × BadAt o s q.place)
+refused-exactly o s q = (bad_there o s q (answer o s), λ h. is_refused o s q.place h.1 ∙ ap Err (sym h.0))

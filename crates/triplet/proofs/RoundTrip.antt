@@ -5,13 +5,12 @@ use Prim.Native.Nat.{ℕ, ◌+◌, ◌^◌, ◌≤◌, ◌<◌}
 use native.Mathlib.Omega.{arith}
 use lib.ListN.{length, take, drop, length-append}
 use lib.Seq.{length-take-le, drop_at}
+use Rattle.std.specs.Prelude.{Ok}
 use Rattle.number.specs.declared.Order.{Order}
 use Rattle.number.specs.Bytes.{bytes_of}
 use Rattle.number.proofs.NumberLaws.{number_bytes, length_bytes}
 use Rattle.triplet.specs.declared.Ids.{Ids}
-use Rattle.triplet.specs.declared.Triplet.TheVariants.{Is}
-use Rattle.triplet.specs.declared.Written.TheVariants.{Bytes}
-use Rattle.triplet.specs.Triplet.{largest_part, width_of, triplet_of}
+use Rattle.triplet.specs.Triplet.{triplet, largest_part, width_of, triplet_of}
 use Rattle.triplet.specs.Written.{code_for, width_for, type_byte, form, form_size, encoded, size_of, written_of, row_after}
 use Rattle.triplet.specs.Words.{PartIs, Holds, SmallParts}
 use Rattle.triplet.proofs.CodeLaws.{shortest_holds, type_id, type_tile, type_other, type_reserved}
@@ -26,7 +25,7 @@ part_stands o xs ys at w v e m f =
 
 -- EVERY FORM IS READ: "A longer form than needed is read." Any type byte with bits 1-0 zero whose widths hold the parts
 pub form_read : (o : Order) (c₁ c₂ c₃ : ℕ) (t : Ids) (rest : List ℕ) → SmallParts t → Holds c₁ t.id → Holds c₂ t.tile → Holds c₃ t.other
-    → triplet_of o (form o c₁ c₂ c₃ t ++ rest) ≡ Is t (form_size c₁ c₂ c₃)
+    → triplet_of o (form o c₁ c₂ c₃ t ++ rest) ≡ Ok (triplet t (form_size c₁ c₂ c₃))
 unfolding form
 form_read o c₁ c₂ c₃ t rest p x y z =
     let b : ℕ = type_byte c₁ c₂ c₃ in
@@ -55,17 +54,17 @@ form_read o c₁ c₂ c₃ t rest p x y z =
     }))
 
 -- THE ROUND TRIP: what is written is read, in either order, whatever follows
-pub round_trip : (o : Order) (t : Ids) (rest : List ℕ) → SmallParts t → triplet_of o (encoded o t ++ rest) ≡ Is t (size_of t)
+pub round_trip : (o : Order) (t : Ids) (rest : List ℕ) → SmallParts t → triplet_of o (encoded o t ++ rest) ≡ Ok (triplet t (size_of t))
 unfolding encoded size_of width_for
 round_trip o t rest p =
     form_read o (code_for t.id) (code_for t.tile) (code_for t.other) t rest p
     (shortest_holds t.id p.id) (shortest_holds t.tile p.tile) (shortest_holds t.other p.other)
 
 -- THE ROUND TRIP IN A ROW: read at the place where it was written, the row gives the same triplet in as many bytes
-pub row_round_trip : (o : Order) (row : List ℕ) (at : ℕ) (t : Ids) (n : ℕ) → written_of (length row) at t ≡ Bytes n
-    → triplet_of o (drop at (row_after (Bytes n) o row at t)) ≡ Is t n
+pub row_round_trip : (o : Order) (row : List ℕ) (at : ℕ) (t : Ids) (n : ℕ) → written_of (length row) at t ≡ Ok n
+    → triplet_of o (drop at (row_after (Ok n) o row at t)) ≡ Ok (triplet t n)
 row_round_trip o row at t n e =
     let f = (written_exactly (length row) at t n).0 e in
     ap (triplet_of o) (drop_at (take at row) (encoded o t ++ drop (at + size_of t) row) at (length-take-le at row f.place))
     ∙ round_trip o t (drop (at + size_of t) row) f.parts
-    ∙ ap (Is t) (sym f.long)
+    ∙ ap (λ (k : ℕ). Ok (triplet t k)) (sym f.long)

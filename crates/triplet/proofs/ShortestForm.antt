@@ -5,12 +5,12 @@ use Prim.Native.Nat.{ℕ, ◌≤◌, ◌<◌}
 use native.Mathlib.Omega.{arith}
 use lib.ListN.{take, drop}
 use lib.Seq.{take-add, drop-cons}
+use Rattle.std.specs.Prelude.{Ok}
 use Rattle.number.specs.declared.Order.{Order}
 use Rattle.number.specs.Bytes.{bytes_of, AreBytes}
 use Rattle.number.proofs.NumberLaws.{number_small, bytes_number}
 use Rattle.triplet.specs.declared.Ids.{Ids}
-use Rattle.triplet.specs.declared.Triplet.TheVariants.{Is}
-use Rattle.triplet.specs.Triplet.{width_of, id_code, tile_code, other_code, triplet_of}
+use Rattle.triplet.specs.Triplet.{triplet, width_of, id_code, tile_code, other_code, triplet_of}
 use Rattle.triplet.specs.Written.{form, size_of}
 use Rattle.triplet.specs.Words.{PartIs, Holds, type_of, id_width, tile_width, other_width, tile_place, other_place}
 use Rattle.triplet.proofs.CodeLaws.{shortest_least, type_again}
@@ -20,7 +20,7 @@ use Rattle.triplet.proofs.ReadExactly.{read_exactly}
 part_held : (o : Order) (s : List ℕ) (at c v : ℕ) → AreBytes s → c < 4 → PartIs o s at (width_of c) v → Holds c v
 part_held o s at c v a l p = record { code = l; fits = rw (← p.says) (number_small o s at (width_of c) a p.inside) }
 
-module _ (o : Order) (s : List ℕ) (t : Ids) (n : ℕ) (a : AreBytes s) (e : triplet_of o s ≡ Is t n) where
+module _ (o : Order) (s : List ℕ) (t : Ids) (n : ℕ) (a : AreBytes s) (e : triplet_of o s ≡ Ok (triplet t n)) where
   -- THE SHORTEST FORM: no fewer bytes are read as the same triplet
   pub none_shorter : size_of t ≤ n
   unfolding size_of

@@ -1,18 +1,19 @@
 -- What the writer's steps leave, and its tests in order.
 use mathlib.Core.Path.{◌≡◌, refl, ap, ◌∙◌}
 use mathlib.Core.List.{List, [], ◌∷◌, ◌++◌, append_assoc}
-use Prim.Native.Nat.{ℕ, suc, ◌+◌, ◌≤◌, ◌<◌}
+use Prim.Native.Nat.{ℕ, zero, suc, ◌+◌, ◌≤◌, ◌<◌}
 use native.Mathlib.Omega.{arith}
 use lib.ListN.{length, set, drop, length-append}
 use lib.Seq.{set_split}
 use borrow.Author.Tests.{ne_eqb, lt-ltb, le-ltb}
-use Rattle.laws.specs.Lowest.{lowest}
+use Rattle.std.specs.Prelude.{Ok, Err}
+use Rattle.laws.specs.Lowest.{lowest, found}
 use Rattle.number.specs.declared.Order.{Order}
 use Rattle.number.specs.Bytes.{bytes_of, written}
 use Rattle.number.proofs.NumberLaws.{written_next, length_bytes}
-use Rattle.refusal.specs.Order.{refusal, first, located}
+use Rattle.refusal.specs.declared.Refusal.{Refusal}
+use Rattle.refusal.specs.Order.{refusal, refused_at, first, located}
 use Rattle.triplet.specs.declared.Ids.{Ids}
-use Rattle.triplet.specs.declared.Written.TheVariants.{Bytes, Refused}
 use Rattle.triplet.specs.Triplet.{bad_triplet}
 use Rattle.triplet.specs.Written.{no_such_place, too_short, code_for, width_for, type_byte, form, encoded, size_of, part_too_large, written_of}
 
@@ -46,19 +47,30 @@ encoded_by o t s s₁ s₂ s₃ b w₁ w₂ h e f g x y z =
 
 -- the tests in order: each refuses where the earlier ones pass, and without a refusal the bytes are written
 module _ (len at : ℕ) (t : Ids) where
-  pub refuses_part : (p : ℕ) → p ≡ lowest (part_too_large t) 3 → (p ≡ 0 → ⊥) → Refused (refusal bad_triplet p) ≡ written_of len at t
+  pub refuses_part : (r : Refusal) → refused_at bad_triplet (found (lowest (part_too_large t) 3)) ≡ Err r → Err r ≡ written_of len at t
   unfolding written_of first located
-  refuses_part p e n = rw (← e, ne_eqb p 0 n)
+  refuses_part r = by (lowest (part_too_large t) 3) refl
+    where
+      by : (p : ℕ) → lowest (part_too_large t) 3 ≡ p → refused_at bad_triplet (found p) ≡ Err r → Err r ≡ written_of len at t
+      by zero e h = let no : ⊥ = cc in absurd no
+      by (suc p) e h = let q : refusal bad_triplet (suc p) ≡ r = cc in rw (← q, e, ne_eqb (suc p) 0 (λ z. omega arith))
 
-  pub refuses_place : lowest (part_too_large t) 3 ≡ 0 → len < at → Refused (refusal no_such_place at) ≡ written_of len at t
+  pub passes_parts : refused_at bad_triplet (found (lowest (part_too_large t) 3)) ≡ Ok tt → lowest (part_too_large t) 3 ≡ 0
+  passes_parts = by (lowest (part_too_large t) 3)
+    where
+      by : (p : ℕ) → refused_at bad_triplet (found p) ≡ Ok tt → p ≡ 0
+      by zero h = refl
+      by (suc p) h = let no : ⊥ = cc in absurd no
+
+  pub refuses_place : lowest (part_too_large t) 3 ≡ 0 → len < at → Err (refusal no_such_place at) ≡ written_of len at t
   unfolding written_of first located
   refuses_place e h = rw (e, lt-ltb len at h)
 
   pub refuses_room : lowest (part_too_large t) 3 ≡ 0 → at ≤ len → len < at + size_of t
-      → Refused (refusal too_short (at + size_of t)) ≡ written_of len at t
+      → Err (refusal too_short (at + size_of t)) ≡ written_of len at t
   unfolding written_of first located
   refuses_room e h r = rw (e, le-ltb len at h, lt-ltb len (at + size_of t) r)
 
-  pub writes : lowest (part_too_large t) 3 ≡ 0 → at + size_of t ≤ len → Bytes (size_of t) ≡ written_of len at t
+  pub writes : lowest (part_too_large t) 3 ≡ 0 → at + size_of t ≤ len → Ok (size_of t) ≡ written_of len at t
   unfolding written_of first located
   writes e r = rw (e, le-ltb len at (omega arith), le-ltb len (at + size_of t) r)

@@ -7,30 +7,30 @@ use Prim.Native.Nat.{ℕ, ◌+◌, ◌≤◌, ◌<◌}
 use native.Mathlib.Omega.{arith}
 use lib.Dec.{eqb, ltb}
 use borrow.Author.Tests.{eqb-true, eqb-false, ne_eqb, lt-ltb, le-ltb, ltb-true, ltb-false}
+use Rattle.std.specs.Prelude.{Ok, Err}
 use Rattle.laws.specs.Lowest.{lowest, LowestFailing}
 use Rattle.laws.proofs.LowestLaws.{bool_cases, lowest_is, lowest-zero}
 use Rattle.refusal.specs.declared.Refusal.{Refusal}
 use Rattle.refusal.specs.Order.{refusal, fine, refused_if, located, first, first_of, RefusedFirst}
 use Rattle.refusal.proofs.OrderLaws.{first-refuses, located-at, passed_all, located_passes, refused_if_passes, refused-first, first-refused}
 use Rattle.triplet.specs.declared.Ids.{Ids}
-use Rattle.triplet.specs.declared.Written.TheVariants.{Bytes, Refused}
 use Rattle.triplet.specs.Triplet.{largest_part, bad_triplet}
-use Rattle.triplet.specs.Written.{no_such_place, too_short, part_numbered, part_too_large, size_of, refusals, unless, written_of}
+use Rattle.triplet.specs.Written.{Written, no_such_place, too_short, part_numbered, part_too_large, size_of, refusals, unless, written_of}
 use Rattle.triplet.specs.Words.{SmallParts, PartSmall, FitsAt, NotWritten, large_part, place_beyond, no_room}
 use Rattle.triplet.proofs.WriterLaws.{writes}
 
 -- an answer of bytes: nothing refused; a refusal: the first
-bytes_unless : (q : Refusal) (n m : ℕ) → unless q n ≡ Bytes m → (q.number ≡ 0) × (n ≡ m)
+bytes_unless : (q : Refusal) (n m : ℕ) → unless q n ≡ Ok m → (q.number ≡ 0) × (n ≡ m)
 bytes_unless q n m e =
     bool_cases (eqb q.number 0)
-    (λ t. let f : Bytes n ≡ Bytes m = rw t at e in let y : n ≡ m = cc in (eqb-true q.number 0 t, y))
-    (λ t. let f : Refused q ≡ Bytes m = rw t at e in let z : ◌≡◌ {A = ℕ} 0 1 = cc in absurd (omega arith))
+    (λ t. let f : ◌≡◌ {A = Written} (Ok n) (Ok m) = rw t at e in let y : n ≡ m = cc in (eqb-true q.number 0 t, y))
+    (λ t. let f : ◌≡◌ {A = Written} (Err q) (Ok m) = rw t at e in let no : ⊥ = cc in absurd no)
 
-refused-unless : (q r : Refusal) (n : ℕ) → unless q n ≡ Refused r → (q ≡ r) × (q.number ≡ 0 → ⊥)
+refused-unless : (q r : Refusal) (n : ℕ) → unless q n ≡ Err r → (q ≡ r) × (q.number ≡ 0 → ⊥)
 refused-unless q r n e =
     bool_cases (eqb q.number 0)
-    (λ t. let f : Bytes n ≡ Refused r = rw t at e in let z : ◌≡◌ {A = ℕ} 0 1 = cc in absurd (omega arith))
-    (λ t. let f : Refused q ≡ Refused r = rw t at e in let y : q ≡ r = cc in (y, eqb-false q.number 0 t))
+    (λ t. let f : ◌≡◌ {A = Written} (Ok n) (Err r) = rw t at e in let no : ⊥ = cc in absurd no)
+    (λ t. let f : ◌≡◌ {A = Written} (Err q) (Err r) = rw t at e in let y : q ≡ r = cc in (y, eqb-false q.number 0 t))
 
 -- no part is too large
 small_parts : (t : Ids) → (lowest (part_too_large t) 3 ≡ 0) ↔ SmallParts t
@@ -43,7 +43,7 @@ small_parts t = (
 )
 
 -- WRITTEN EXACTLY WHEN the parts are small, the place is in the row and there is room
-pub written_exactly : (len at : ℕ) (t : Ids) (n : ℕ) → (written_of len at t ≡ Bytes n) ↔ FitsAt len at t n
+pub written_exactly : (len at : ℕ) (t : Ids) (n : ℕ) → (written_of len at t ≡ Ok n) ↔ FitsAt len at t n
 unfolding written_of
 written_exactly len at t n = (
   λ e.
@@ -54,11 +54,11 @@ written_exactly len at t n = (
       let r = ltb-false len (at + size_of t) (refused_if_passes (ltb len (at + size_of t)) too_short (at + size_of t)
       (λ z. omega arith) a.1.1.0) in
       record { parts = (small_parts t).0 p; place = l; room = omega (arith, u.1, r); long = sym u.1 },
-  λ f. sym (writes len at t ((small_parts t).1 f.parts) (omega (arith, f.long, f.room))) ∙ ap Bytes (sym f.long),
+  λ f. sym (writes len at t ((small_parts t).1 f.parts) (omega (arith, f.long, f.room))) ∙ ap Ok (sym f.long),
 )
 
 -- REFUSED EXACTLY WHEN one of the three tests refuses and the earlier ones pass, with its number and place
-pub refused_in_order : (len at : ℕ) (t : Ids) (r : Refusal) → (written_of len at t ≡ Refused r) ↔ RefusedFirst (refusals len at t) r
+pub refused_in_order : (len at : ℕ) (t : Ids) (r : Refusal) → (written_of len at t ≡ Err r) ↔ RefusedFirst (refusals len at t) r
 unfolding written_of
 refused_in_order len at t r = (
   λ e.
@@ -141,7 +141,7 @@ module _ (len at : ℕ) (t : Ids) where
   in_words q r (refused w) e some = subst (λ (x : Refusal). NotWritten len at t x.number x.place) e w
 
   -- REFUSED WITH n AT p EXACTLY WHEN the words of that refusal hold
-  pub not_written_exactly : (n p : ℕ) → (written_of len at t ≡ Refused (refusal n p)) ↔ NotWritten len at t n p
+  pub not_written_exactly : (n p : ℕ) → (written_of len at t ≡ Err (refusal n p)) ↔ NotWritten len at t n p
   unfolding written_of
   not_written_exactly n p = (
     λ e.

@@ -1,15 +1,13 @@
 -- A triplet id as bytes, and written. "The writer uses the shortest form (0 takes no bytes), written at a place inside the
 -- caller's row buffer, and changes no other byte. It tests a part too large (11, lowest such part, 1 to 3), then a place
 -- beyond the buffer (13), then room (14, start place plus bytes)."
-use Rattle.std.specs.Prelude.{Bool, cond, List, [], ◌∷◌, ◌++◌, ℕ, ◌+◌, ◌*◌, eqb, ltb, take, drop}
+use Rattle.std.specs.Prelude.{Bool, cond, List, [], ◌∷◌, ◌++◌, ℕ, ◌+◌, ◌*◌, eqb, ltb, take, drop, Result, Ok, Err}
 use Rattle.laws.specs.Lowest.{lowest}
 use Rattle.number.specs.declared.Order.{Order}
 use Rattle.number.specs.Bytes.{bytes_of}
 use Rattle.refusal.specs.declared.Refusal.{Refusal}
 use Rattle.refusal.specs.Order.{refused_if, located, first_of}
 use Rattle.triplet.specs.declared.Ids.{Ids}
-use Rattle.triplet.specs.declared.Written.{Written}
-use Rattle.triplet.specs.declared.Written.TheVariants.{Bytes, Refused}
 use Rattle.triplet.specs.Triplet.{bad_triplet, largest_part, absent, width_of}
 
 -- refusal 13, a place beyond the buffer, and 14, "lent output too short"
@@ -69,9 +67,13 @@ refusals len at t =
     ∷ refused_if (ltb len (at + size_of t)) too_short (at + size_of t)
     ∷ []
 
+-- how many bytes were written, or the refusal
+abbrev pub Written : Type 0
+Written = Result ℕ Refusal
+
 -- the bytes written, unless a test refuses
 abbrev pub unless : Refusal → ℕ → Written
-unless r n = cond (eqb r.number 0) (Bytes n) (Refused r)
+unless r n = cond (eqb r.number 0) (Ok n) (Err r)
 
 -- THE ANSWER of the writer, in a row of `len` bytes
 unfoldable pub written_of : ℕ → ℕ → Ids → Written
@@ -79,5 +81,5 @@ written_of len at t = unless (first_of (refusals len at t)) (size_of t)
 
 -- THE ROW AFTERWARDS: the bytes written and no other byte changed; none on a refusal
 abbrev pub row_after : Written → Order → List ℕ → ℕ → Ids → List ℕ
-row_after (Bytes n) o row at t = take at row ++ (encoded o t ++ drop (at + size_of t) row)
-row_after (Refused r) o row at t = row
+row_after (Ok n) o row at t = take at row ++ (encoded o t ++ drop (at + size_of t) row)
+row_after (Err r) o row at t = row

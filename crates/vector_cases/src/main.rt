@@ -4,8 +4,8 @@
 
 ghost use Rattle.std.specs.Prelude.{◌<◌};
 
-use casefile::FILE_ROOM;
-use directory::Sizes;
+use casefile::{FILE_ROOM, Fields};
+use directory::{Directory, Sizes};
 use limits::MOST_BYTES;
 use number::Order;
 use std::io;
@@ -17,7 +17,7 @@ use teller::TEXT_SPACE;
 fn size_of(sizes: &[u8], file: usize) -> usize
     requires { file < 6 }
 {
-    number::read8(sizes, 8 * file, Order::Least) as usize
+    number::read::<u64>(sizes, 8 * file, Order::Least) as usize
 }
 
 // The text's first n bytes.
@@ -25,30 +25,13 @@ fn say_front(out: &mut impl Write, text: &[u8; TEXT_SPACE], n: usize) -> io::Res
     casefile::say_part(out, text, 0, n)
 }
 
-// The first bytes of the buffer, as many as there are.
-fn front<'a>(buf: &'a [u8], size: usize) -> &'a [u8] {
-    if buf.len() < size {
-        return buf;
-    }
-    &buf[0..size]
-}
-
 // What was read of a file.
-fn lent<'a>(buf: &'a [u8; MOST_BYTES], size: usize) -> &'a [u8] {
-    front(buf, size)
+fn lent(buf: &[u8], size: usize) -> &[u8] {
+    buf.get(..size).unwrap_or(buf)
 }
 
 // What is told of the six files, which are said to have these sizes.
-fn tell(
-    out: &mut impl Write,
-    said: &[u8],
-    edg: &[u8],
-    edx: &[u8],
-    fac: &[u8],
-    rng: &[u8],
-    cnd: &[u8],
-    cnx: &[u8],
-) -> io::Result<()> {
+fn tell(out: &mut impl Write, said: &[u8], lent: &Directory) -> io::Result<()> {
     let sizes = Sizes {
         edg: size_of(said, 0),
         edx: size_of(said, 1),
@@ -58,7 +41,7 @@ fn tell(
         cnx: size_of(said, 5),
     };
     let mut text = [0u8; TEXT_SPACE];
-    let n = teller::tell_tile(sizes, edg, edx, fac, rng, cnd, cnx, &mut text);
+    let n = teller::tell_tile(sizes, lent, &mut text);
     say_front(out, &text, n)
 }
 
@@ -77,23 +60,20 @@ fn run_case(files: &impl Files, out: &mut impl Write, case: &[u8]) -> io::Result
     let of_cnx = casefile::load(files, casefile::part(case, 6), &mut cnx);
     casefile::say(out, casefile::part(case, 0))?;
     casefile::say(out, b"\n")?;
-    tell(
-        out,
-        casefile::part(case, 7),
-        lent(&edg, of_edg),
-        lent(&edx, of_edx),
-        lent(&fac, of_fac),
-        lent(&rng, of_rng),
-        lent(&cnd, of_cnd),
-        lent(&cnx, of_cnx),
-    )
+    let files = Directory {
+        edg: lent(&edg, of_edg),
+        edx: lent(&edx, of_edx),
+        fac: lent(&fac, of_fac),
+        rng: lent(&rng, of_rng),
+        cnd: lent(&cnd, of_cnd),
+        cnx: lent(&cnx, of_cnx),
+    };
+    tell(out, casefile::part(case, 7), &files)
 }
 
 fn run(files: &impl Files, out: &mut impl Write, file: &[u8]) -> io::Result<()> {
-    let mut at = 0;
-    while at < file.len() {
-        run_case(files, out, casefile::field(file, at))?;
-        at = casefile::after(file, at);
+    for case in Fields::new(file) {
+        run_case(files, out, case)?;
     }
     Ok(())
 }

@@ -15,14 +15,11 @@ use Rattle.laws.proofs.MachineLaws.{run_accepts, accepts_run, accepts_map}
 use Rattle.laws.proofs.LanguageLaws.{leaves_once, stuck_leaves, ended_leaves}
 use Rattle.refusal.specs.declared.Refusal.{Refusal}
 use Rattle.refusal.specs.Order.{refusal}
+use Rattle.std.specs.Prelude.{Some, None, Ok, Err}
 use Rattle.wave.specs.Words.{thousand, IsHeight, WaveHeight}
-use Rattle.wave.specs.Height.{kind_of, step_of, finish_of, next_of, machine, start, answer, height_of, no_wave_height, Roomy}
+use Rattle.wave.specs.Height.{Height, Step, kind_of, step_of, finish_of, next_of, machine, start, answer, height_of, no_wave_height, Roomy}
 use Rattle.wave.specs.declared.State.{State}
 use Rattle.wave.specs.declared.State.TheVariants.{Whole, Part, Spaces}
-use Rattle.wave.specs.declared.Step.{Step}
-use Rattle.wave.specs.declared.Step.TheVariants.{Go, Stop}
-use Rattle.wave.specs.declared.Height.{Height}
-use Rattle.wave.specs.declared.Height.TheVariants.{Thousandths, Refused}
 use Rattle.wave.proofs.Bytes.{one_digit}
 use Rattle.wave.proofs.RoomLaws.{RoomyStep, roomy_step}
 use Rattle.wave.proofs.Reading.{Final, read, was_left}
@@ -82,11 +79,8 @@ keeps : (st : State) (b : ℕ) (st' : State) → Roomy st → machine st b ≡ g
 keeps st b st' r e = by (step_of st (kind_of b)) (roomy_step st (kind_of b) r (one_digit b)) e
   where
     by : (o : Step) → RoomyStep o → next_of o ≡ go st' → Roomy st'
-    by (Go x) r e = let h : x ≡ st' = cc in subst Roomy h r
-    by Stop r e = let z : ◌≡◌ {A = ℕ} 0 1 = cc in absurd (no z)
-      where
-        no : ◌≡◌ {A = ℕ} 0 1 → ⊥
-        no z = omega arith
+    by (Some x) r e = let h : x ≡ st' = cc in subst Roomy h r
+    by None r e = let no : ⊥ = cc in absurd no
 
 abbrev nought : List ℕ
 nought = 48 ∷ []
@@ -102,26 +96,26 @@ live (Spaces u) r = ([], (u, refl))
 
 -- the answer of a state is a height where the text may end in it, and else 16 at the text's length
 data Answered (at : ℕ) (st : State) : Height → Type 0 where
-  says : {v : ℕ} → Final v st → Answered at st (Thousandths v)
-  wants : (Done st → ⊥) → Answered at st (Refused (refusal no_wave_height at))
+  says : {v : ℕ} → Final v st → Answered at st (Ok v)
+  wants : (Done st → ⊥) → Answered at st (Err (refusal no_wave_height at))
 
 answered : (at : ℕ) (st : State) → Answered at st (finish_of at st)
 answered at (Whole n u) = by (ltb 0 n) refl
   where
-    by : (b : Bool) → ltb 0 n ≡ b → Answered at (Whole n u) (cond b (Thousandths (u * thousand)) (Refused (refusal no_wave_height at)))
+    by : (b : Bool) → ltb 0 n ≡ b → Answered at (Whole n u) (cond b (Ok (u * thousand)) (Err (refusal no_wave_height at)))
     by true e = says (ltb-true 0 n e, refl)
     by false e = wants (λ d. omega (arith, ltb-false 0 n e, d.1.0))
 answered at (Part n u) = by (ltb 0 n) refl
   where
-    by : (b : Bool) → ltb 0 n ≡ b → Answered at (Part n u) (cond b (Thousandths u) (Refused (refusal no_wave_height at)))
+    by : (b : Bool) → ltb 0 n ≡ b → Answered at (Part n u) (cond b (Ok u) (Err (refusal no_wave_height at)))
     by true e = says (ltb-true 0 n e, refl)
     by false e = wants (λ d. omega (arith, ltb-false 0 n e, d.1.0))
 answered at (Spaces u) = says refl
 
 -- What a text is read as: the height that it is, or refused where it leaves the wave heights
 pub data Read (s : List ℕ) : Height → Type 0 where
-  height : {v : ℕ} → IsHeight s v → Read s (Thousandths v)
-  refused : {i : ℕ} → LeavesAt WaveHeight s i → Read s (Refused (refusal no_wave_height i))
+  height : {v : ℕ} → IsHeight s v → Read s (Ok v)
+  refused : {i : ℕ} → LeavesAt WaveHeight s i → Read s (Err (refusal no_wave_height i))
 
 pub each_text : (s : List ℕ) → Read s (height_of s)
 unfolding height_of
@@ -151,25 +145,25 @@ one_value s v w g h =
     final_once b.0 v w (subst (λ (st : State). Final v st) e a.2) b.2
 
 -- "It becomes whole thousandths": a text is read as v exactly when it is a wave height that says v thousandths
-pub accepted_exactly : (s : List ℕ) (v : ℕ) → (height_of s ≡ Thousandths v) ↔ IsHeight s v
+pub accepted_exactly : (s : List ℕ) (v : ℕ) → (height_of s ≡ Ok v) ↔ IsHeight s v
 accepted_exactly s v = ((λ e. out v (subst (λ (h : Height). Read s h) e (each_text s))), back (height_of s) (each_text s))
   where
-    out : (w : ℕ) → Read s (Thousandths w) → IsHeight s w
+    out : (w : ℕ) → Read s (Ok w) → IsHeight s w
     out w (height h) = h
 
-    back : (o : Height) → Read s o → IsHeight s v → o ≡ Thousandths v
-    back o (height {v = w} g) h = ap (λ (n : ℕ). Thousandths n) (one_value s w v g h)
+    back : (o : Height) → Read s o → IsHeight s v → o ≡ Ok v
+    back o (height {v = w} g) h = ap (λ (n : ℕ). Ok n) (one_value s w v g h)
     back o (refused l) h = absurd (l.outside (v, h))
 
 -- "text is no wave height | first bad byte, or text length": it is refused with 16 exactly where it leaves the wave heights
-pub refused-exactly : (s : List ℕ) (r : Refusal) → (height_of s ≡ Refused r) ↔ ((r.number ≡ no_wave_height) × LeavesAt WaveHeight s r.place)
+pub refused-exactly : (s : List ℕ) (r : Refusal) → (height_of s ≡ Err r) ↔ ((r.number ≡ no_wave_height) × LeavesAt WaveHeight s r.place)
 refused-exactly s r = ((λ e. out r (subst (λ (h : Height). Read s h) e (each_text s))), (λ l. back (height_of s) (each_text s) l.0 l.1))
   where
-    out : (q : Refusal) → Read s (Refused q) → (q.number ≡ no_wave_height) × LeavesAt WaveHeight s q.place
+    out : (q : Refusal) → Read s (Err q) → (q.number ≡ no_wave_height) × LeavesAt WaveHeight s q.place
     out q (refused l) = (refl, l)
 
-    back : (o : Height) → Read s o → r.number ≡ no_wave_height → LeavesAt WaveHeight s r.place → o ≡ Refused r
+    back : (o : Height) → Read s o → r.number ≡ no_wave_height → LeavesAt WaveHeight s r.place → o ≡ Err r
     back o (height {v = w} g) e l = absurd (l.outside (w, g))
     back o (refused {i = i} k) e l =
-        ap (λ (p : ℕ). Refused (refusal no_wave_height p)) (leaves_once WaveHeight s i r.place k l)
-        ∙ ap (λ (n : ℕ). Refused (refusal n r.place)) (sym e)
+        ap (λ (p : ℕ). Err (refusal no_wave_height p)) (leaves_once WaveHeight s i r.place k l)
+        ∙ ap (λ (n : ℕ). Err (refusal n r.place)) (sym e)

@@ -9,12 +9,12 @@ use lib.ListN.{length}
 use lib.Dec.{ltb}
 use borrow.Author.Tests.{ltb-true, lt-ltb}
 use Rattle.laws.specs.Machine.{on_next, Accepts}
+use Rattle.std.specs.Prelude.{Some, None}
 use Rattle.wave.specs.Words.{point, most_whole, most_part, thousand, IsDigit, IsSpace, Every, digit, number, Fraction, absent, present}
 use Rattle.wave.specs.Height.{kind_of, worth_of, step_of, next_of, machine, Roomy}
 use Rattle.wave.specs.declared.Kind.{Kind}
 use Rattle.wave.specs.declared.State.{State}
 use Rattle.wave.specs.declared.State.TheVariants.{Whole, Part, Spaces}
-use Rattle.wave.specs.declared.Step.TheVariants.{Go, Stop}
 use Rattle.wave.proofs.Bytes.{Seen, seen-digit, seen-point, seen-space, seen_other, seen, digit_kind, one_digit}
 use Rattle.wave.proofs.RoomLaws.{RoomyStep, roomy_step}
 
@@ -129,8 +129,8 @@ module _ (v : ℕ) where
 -- ---- a text that is read to its end was left
 
 -- where a text goes on, the test held
-went : (P : State → Type 0) (b : Bool) (st : State) → RoomyStep (cond b (Go st) Stop)
-    → on_next P (next_of (cond b (Go st) Stop)) → (b ≡ true) × Roomy st × P st
+went : (P : State → Type 0) (b : Bool) (st : State) → RoomyStep (cond b (Some st) None)
+    → on_next P (next_of (cond b (Some st) None)) → (b ≡ true) × Roomy st × P st
 went P true st r a = (refl, r, a)
 went P false st r a = absurd a
 

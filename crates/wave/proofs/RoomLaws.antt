@@ -1,43 +1,35 @@
 -- In every state that a reading reaches the numbers are small enough that no sum or product wraps.
 use mathlib.Core.Path.{◌≡◌, refl, ap}
-use Prim.Native.Nat.{ℕ, suc, ◌*◌, ◌^◌, ◌≤◌, ◌<◌}
+use Prim.Native.Nat.{ℕ, ◌^◌, ◌≤◌, ◌<◌}
 use native.Mathlib.Omega.{arith}
 use native.Mathlib.Numerals.{add-one}
 use native.Mathlib.Nat.{pow-suc, pow-le-pow_right}
 use mathlib.Core.Bool.{Bool, true, false, cond}
-use lib.Dec.{lit<, ltb, eqb}
+use lib.Dec.{lit<, ltb}
 use borrow.Author.Tests.{ltb-true}
+use Rattle.std.specs.Prelude.{Some, None}
+use Rattle.std.proofs.lemmas.Bool.Decides.{nat_tests}
 use Rattle.wave.specs.Words.{most_whole, most_part}
-use Rattle.wave.specs.Height.{worth_of, step_of, Roomy, OneDigit}
+use Rattle.wave.specs.Height.{Step, worth_of, step_of, Roomy, OneDigit}
 use Rattle.wave.specs.declared.Kind.{Kind}
 use Rattle.wave.specs.declared.Kind.TheVariants.{Digit, Point, Space, Other}
 use Rattle.wave.specs.declared.State.{State}
 use Rattle.wave.specs.declared.State.TheVariants.{Whole, Part, Spaces}
-use Rattle.wave.specs.declared.Step.{Step}
-use Rattle.wave.specs.declared.Step.TheVariants.{Go, Stop}
 
 -- the whole digits say less than a million
 pub ten_room : (n : ℕ) → n ≤ most_whole → 10 ^ n ≤ 1000000
 ten_room n h = pow-le-pow_right {n = 10} (lit< tt) {i = n} {j = most_whole} h
 
-pub ten_next : (n : ℕ) → n < most_whole → 10 ^ n * 10 ≤ 1000000
-ten_next n h = rw (← pow-suc 10 n) (ten_room (suc n) h)
-
 -- a digit after the point says at most 900 thousandths
 worth_room : (d n : ℕ) → d ≤ 9 → worth_of d n ≤ 900
-worth_room d n h = two (eqb n 0) (eqb n 1)
-  where
-    two : (a b : Bool) → cond a (d * 100) (cond b (d * 10) d) ≤ 900
-    two true b = omega arith
-    two false true = omega arith
-    two false false = omega arith
+worth_room d n h = grind (arith, nat_tests)
 
 -- the state after a step, if there is one, is as small
 abbrev pub RoomyStep : Step → Type 0
-RoomyStep (Go st) = Roomy st
-RoomyStep Stop = Unit {0}
+RoomyStep (Some st) = Roomy st
+RoomyStep None = Unit {0}
 
-on_cond : (b : Bool) (x : Step) → (b ≡ true → RoomyStep x) → RoomyStep (cond b x Stop)
+on_cond : (b : Bool) (x : Step) → (b ≡ true → RoomyStep x) → RoomyStep (cond b x None)
 on_cond true x h = h refl
 on_cond false x h = tt
 

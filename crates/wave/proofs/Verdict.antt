@@ -8,74 +8,72 @@ use lib.Dec.{leb}
 use borrow.Author.Tests.{leb-true, leb-false, le-leb, lt-leb}
 use Rattle.laws.specs.Texts.{bytes}
 use Rattle.refusal.specs.declared.Refusal.{Refusal}
+use Rattle.std.specs.Prelude.{Ok, Err}
 use Rattle.wave.specs.Words.{IsHeight, NotAbove, Above}
-use Rattle.wave.specs.Height.{height_of}
-use Rattle.wave.specs.Judgement.{judged, judgement_of}
-use Rattle.wave.specs.declared.Height.{Height}
-use Rattle.wave.specs.declared.Height.TheVariants as height
-use Rattle.wave.specs.declared.Judgement.{Judgement}
-use Rattle.wave.specs.declared.Judgement.TheVariants.{Passes, TooHigh, Refused}
+use Rattle.wave.specs.Height.{Height, height_of}
+use Rattle.wave.specs.Judgement.{Compared, judged, judgement_of}
+use Rattle.wave.specs.declared.Judgement.TheVariants.{Passes, TooHigh}
 use Rattle.wave.proofs.Exact.{accepted_exactly}
 
 -- What a judgement rests on, by what the two texts are read as
-data Judged (measured limit : List ℕ) : Judgement → Type 0 where
-  within : NotAbove measured limit → Judged measured limit Passes
-  beyond : Above measured limit → Judged measured limit TooHigh
-  bad_limit : {r : Refusal} → height_of limit ≡ height.Refused r → Judged measured limit (Refused r)
-  bad_measured : {r : Refusal} {most : ℕ} → IsHeight limit most → height_of measured ≡ height.Refused r → Judged measured limit (Refused r)
+data Judged (measured limit : List ℕ) : Compared → Type 0 where
+  within : NotAbove measured limit → Judged measured limit (Ok Passes)
+  beyond : Above measured limit → Judged measured limit (Ok TooHigh)
+  bad_limit : {r : Refusal} → height_of limit ≡ Err r → Judged measured limit (Err r)
+  bad_measured : {r : Refusal} {most : ℕ} → IsHeight limit most → height_of measured ≡ Err r → Judged measured limit (Err r)
 
 module _ (m l : List ℕ) where
   each : Judged m l (judgement_of m l)
   unfolding judgement_of
   each = by (height_of l) (height_of m) refl refl
     where
-      compared : (most seen : ℕ) → IsHeight l most → IsHeight m seen → (b : Bool) → leb seen most ≡ b → Judged m l (cond b Passes TooHigh)
+      compared : (most seen : ℕ) → IsHeight l most → IsHeight m seen → (b : Bool) → leb seen most ≡ b → Judged m l (Ok (cond b Passes TooHigh))
       compared most seen h g true e = within (record { seen = seen; most = most; measures = g; limits = h; within = leb-true seen most e })
       compared most seen h g false e = beyond (record { seen = seen; most = most; measures = g; limits = h; beyond = leb-false seen most e })
 
       by : (x y : Height) → height_of l ≡ x → height_of m ≡ y → Judged m l (judged x y)
-      by (height.Refused r) y e f = bad_limit e
-      by (height.Thousandths most) (height.Refused r) e f = bad_measured ((accepted_exactly l most).0 e) f
-      by (height.Thousandths most) (height.Thousandths seen) e f = compared most seen ((accepted_exactly l most).0 e)
+      by (Err r) y e f = bad_limit e
+      by (Ok most) (Err r) e f = bad_measured ((accepted_exactly l most).0 e) f
+      by (Ok most) (Ok seen) e f = compared most seen ((accepted_exactly l most).0 e)
           ((accepted_exactly m seen).0 f) (leb seen most) refl
 
   -- the readings decide
-  from_readings : (most seen : ℕ) → IsHeight m seen → IsHeight l most → judgement_of m l ≡ cond (leb seen most) Passes TooHigh
+  from_readings : (most seen : ℕ) → IsHeight m seen → IsHeight l most → judgement_of m l ≡ Ok (cond (leb seen most) Passes TooHigh)
   unfolding judgement_of
   from_readings most seen g h = rw ((accepted_exactly l most).1 h, (accepted_exactly m seen).1 g)
 
   -- "A measured height passes exactly when not above the limit"
-  pub passes_exactly : (judgement_of m l ≡ Passes) ↔ NotAbove m l
+  pub passes_exactly : (judgement_of m l ≡ Ok Passes) ↔ NotAbove m l
   passes_exactly = (
-    (λ e. out (subst (λ (j : Judgement). Judged m l j) e each)),
+    (λ e. out (subst (λ (j : Compared). Judged m l j) e each)),
     (λ n. from_readings n.most n.seen n.measures n.limits ∙ rw (le-leb n.seen n.most n.within)),
   )
     where
-      out : Judged m l Passes → NotAbove m l
+      out : Judged m l (Ok Passes) → NotAbove m l
       out (within n) = n
 
-  pub too_high_exactly : (judgement_of m l ≡ TooHigh) ↔ Above m l
+  pub too_high_exactly : (judgement_of m l ≡ Ok TooHigh) ↔ Above m l
   too_high_exactly = (
-    (λ e. out (subst (λ (j : Judgement). Judged m l j) e each)),
+    (λ e. out (subst (λ (j : Compared). Judged m l j) e each)),
     (λ n. from_readings n.most n.seen n.measures n.limits ∙ rw (lt-leb n.seen n.most n.beyond)),
   )
     where
-      out : Judged m l TooHigh → Above m l
+      out : Judged m l (Ok TooHigh) → Above m l
       out (beyond n) = n
 
   -- "of two bad texts the limit's is refused": the limit's refusal, or the measured text's where the limit is a height
-  pub refused-exactly : (r : Refusal) → (judgement_of m l ≡ Refused r)
-      ↔ ((height_of l ≡ height.Refused r) ⊎ ((most : ℕ) × IsHeight l most × (height_of m ≡ height.Refused r)))
+  pub refused-exactly : (r : Refusal) → (judgement_of m l ≡ Err r)
+      ↔ ((height_of l ≡ Err r) ⊎ ((most : ℕ) × IsHeight l most × (height_of m ≡ Err r)))
   unfolding judgement_of
-  refused-exactly r = ((λ e. out r (subst (λ (j : Judgement). Judged m l j) e each)), back)
+  refused-exactly r = ((λ e. out r (subst (λ (j : Compared). Judged m l j) e each)), back)
     where
-      out : (q : Refusal) → Judged m l (Refused q)
-          → (height_of l ≡ height.Refused q) ⊎ ((most : ℕ) × IsHeight l most × (height_of m ≡ height.Refused q))
+      out : (q : Refusal) → Judged m l (Err q)
+          → (height_of l ≡ Err q) ⊎ ((most : ℕ) × IsHeight l most × (height_of m ≡ Err q))
       out q (bad_limit e) = inl e
       out q (bad_measured {most = most} h e) = inr (most, h, e)
 
-      back : (height_of l ≡ height.Refused r) ⊎ ((most : ℕ) × IsHeight l most × (height_of m ≡ height.Refused r))
-          → judged (height_of l) (height_of m) ≡ Refused r
+      back : (height_of l ≡ Err r) ⊎ ((most : ℕ) × IsHeight l most × (height_of m ≡ Err r))
+          → judged (height_of l) (height_of m) ≡ Err r
       back (inl e) = rw e
       back (inr w) = rw ((accepted_exactly l w.0).1 w.1, w.2)
 
@@ -86,6 +84,6 @@ ten = bytes "10.0"
 abbrev two_and_a_half : List ℕ
 two_and_a_half = bytes "2.5"
 
-pub ten_is_too_high : judgement_of ten two_and_a_half ≡ TooHigh
+pub ten_is_too_high : judgement_of ten two_and_a_half ≡ Ok TooHigh
 unfolding judgement_of height_of
 ten_is_too_high = refl

@@ -1,21 +1,26 @@
 -- Reading a wave height byte by byte: "1 to 6 digits, optionally a point and 1 to 3 digits, then only spaces. It becomes whole
 -- thousandths". What this machine reads is what Words.antt says, by the theorems of proofs/Exact.antt.
-use Rattle.std.specs.Prelude.{cond, List, ℕ, ◌+◌, ◌*◌, ◌^◌, ◌≤◌, ◌<◌, length, ltb, leb, eqb}
+use Rattle.std.specs.Prelude.{cond, List, ℕ, ◌+◌, ◌*◌, ◌^◌, ◌≤◌, ◌<◌, length, ltb, leb, eqb, Option, Some, None, Result, Ok, Err}
 use Rattle.laws.specs.Machine.{End, ended, stuck, Next, go, stop, run}
+use Rattle.refusal.specs.declared.Refusal.{Refusal}
 use Rattle.refusal.specs.Order.{refusal}
 use Rattle.wave.specs.Words.{point, space, first_digit, last_digit, most_whole, most_part, thousand, digit}
 use Rattle.wave.specs.declared.Kind.{Kind}
 use Rattle.wave.specs.declared.Kind.TheVariants.{Digit, Point, Space, Other}
 use Rattle.wave.specs.declared.State.{State}
 use Rattle.wave.specs.declared.State.TheVariants.{Whole, Part, Spaces}
-use Rattle.wave.specs.declared.Step.{Step}
-use Rattle.wave.specs.declared.Step.TheVariants.{Go, Stop}
-use Rattle.wave.specs.declared.Height.{Height}
-use Rattle.wave.specs.declared.Height.TheVariants.{Thousandths, Refused}
 
 -- refusal 16, "text is no wave height"
 abbrev pub no_wave_height : ℕ
 no_wave_height = 16
+
+-- "It becomes whole thousandths", or it is refused
+abbrev pub Height : Type 0
+Height = Result ℕ Refusal
+
+-- the next state, or that no wave height goes on so
+abbrev pub Step : Type 0
+Step = Option State
 
 -- what a byte can be; a digit with the number that it says
 abbrev pub kind_of : ℕ → Kind
@@ -29,28 +34,28 @@ worth_of d n = cond (eqb n 0) (d * 100) (cond (eqb n 1) (d * 10) d)
 
 -- what the next byte makes of a reading
 abbrev pub step_of : State → Kind → Step
-step_of (Whole n v) (Digit d) = cond (ltb n most_whole) (Go (Whole (n + 1) (v * 10 + d))) Stop
-step_of (Whole n v) Point = cond (ltb 0 n) (Go (Part 0 (v * thousand))) Stop
-step_of (Whole n v) Space = cond (ltb 0 n) (Go (Spaces (v * thousand))) Stop
-step_of (Whole n v) Other = Stop
-step_of (Part n v) (Digit d) = cond (ltb n most_part) (Go (Part (n + 1) (v + worth_of d n))) Stop
-step_of (Part n v) Point = Stop
-step_of (Part n v) Space = cond (ltb 0 n) (Go (Spaces v)) Stop
-step_of (Part n v) Other = Stop
-step_of (Spaces v) (Digit d) = Stop
-step_of (Spaces v) Point = Stop
-step_of (Spaces v) Space = Go (Spaces v)
-step_of (Spaces v) Other = Stop
+step_of (Whole n v) (Digit d) = cond (ltb n most_whole) (Some (Whole (n + 1) (v * 10 + d))) None
+step_of (Whole n v) Point = cond (ltb 0 n) (Some (Part 0 (v * thousand))) None
+step_of (Whole n v) Space = cond (ltb 0 n) (Some (Spaces (v * thousand))) None
+step_of (Whole n v) Other = None
+step_of (Part n v) (Digit d) = cond (ltb n most_part) (Some (Part (n + 1) (v + worth_of d n))) None
+step_of (Part n v) Point = None
+step_of (Part n v) Space = cond (ltb 0 n) (Some (Spaces v)) None
+step_of (Part n v) Other = None
+step_of (Spaces v) (Digit d) = None
+step_of (Spaces v) Point = None
+step_of (Spaces v) Space = Some (Spaces v)
+step_of (Spaces v) Other = None
 
 -- "first bad byte, or text length": the text ended at this place, perhaps where a digit is still wanted
 abbrev pub finish_of : ℕ → State → Height
-finish_of at (Whole n v) = cond (ltb 0 n) (Thousandths (v * thousand)) (Refused (refusal no_wave_height at))
-finish_of at (Part n v) = cond (ltb 0 n) (Thousandths v) (Refused (refusal no_wave_height at))
-finish_of at (Spaces v) = Thousandths v
+finish_of at (Whole n v) = cond (ltb 0 n) (Ok (v * thousand)) (Err (refusal no_wave_height at))
+finish_of at (Part n v) = cond (ltb 0 n) (Ok v) (Err (refusal no_wave_height at))
+finish_of at (Spaces v) = Ok v
 
 abbrev pub next_of : Step → Next State
-next_of (Go st) = go st
-next_of Stop = stop
+next_of (Some st) = go st
+next_of None = stop
 
 abbrev pub machine : State → ℕ → Next State
 machine st b = next_of (step_of st (kind_of b))
@@ -60,7 +65,7 @@ start = Whole 0 0
 
 abbrev pub answer : ℕ → End State → Height
 answer n (ended st) = finish_of n st
-answer n (stuck i) = Refused (refusal no_wave_height i)
+answer n (stuck i) = Err (refusal no_wave_height i)
 
 -- what a text is: a height in thousandths, or refused with 16 at a place
 unfoldable pub height_of : List ℕ → Height

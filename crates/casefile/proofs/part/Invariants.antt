@@ -1,10 +1,7 @@
-use Prim.Native.Nat.{◌-◌, ◌≤◌}
-use mathlib.Core.Path.{◌≡◌}
+use Rattle.std.specs.Prelude.{◌≡◌}
 use Rattle.casefile.specs.Fields.{place_of}
 use Rattle.casefile.proofs.part.Given as goal
 
-abbrev pub invariant-loop-i : goal.invariant-loop-i
-invariant-loop-i l = (l.i ≤ l.k) × (l.at ≡ place_of l.case l.i)
-
-abbrev pub decreases-loop-i : goal.decreases-loop-i
-decreases-loop-i l = l.k - l.i
+-- before each turn the place is that of the field counted to
+abbrev pub invariant-loop : goal.invariant-loop
+invariant-loop l = l.at ≡ place_of l.case l.counter

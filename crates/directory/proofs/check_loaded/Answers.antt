@@ -1,33 +1,23 @@
 -- `directory::check_loaded` meets its contract: counts that the columns cannot have, or else the check of their front.
-use Rattle.load.specs.Columns.{Columns, columns}
-use Rattle.directory.proofs.OutcomeLaws.{fronts_held, counts_refused, counts_fit}
+use mathlib.Core.Path.{ap, ◌∙◌}
+use Rattle.std.proofs.Common.{Err}
+use Rattle.tile.specs.Columns.{Tile}
+use Rattle.directory.specs.Outcome.{checked_from}
+use Rattle.directory.proofs.OutcomeLaws.{not_some, counts_refused, counts_fit}
 use Rattle.directory.proofs.check_loaded.Goals as goal
-use Rattle.directory.proofs.check_loaded.Goals.{Start}
 
--- the columns as they were lent
-abbrev lent : Start → Columns
-lent c =
-    columns c.args.start_node.now c.args.end_node.now c.args.right_face.now c.args.left_face.now c.args.right_edge.now c.args.left_edge.now
-    c.args.ring_ptr.now c.args.fac_id.now c.args.start_edge.now c.args.first_edge.now
-
-pub returns-in-Is : goal.returns-in-Is
-returns-in-Is c =
-    record {
-      value = (counts_refused c.args.counts (lent (goal.at.returns-in-Is c).Start) _ c.short_table.ensures _ c.in-Is.is _ c.over_limit.ensures
-          c.args.marks.now).0;
-      marks_after = (counts_refused c.args.counts (lent (goal.at.returns-in-Is c).Start) _ c.short_table.ensures _ c.in-Is.is _ c.over_limit.ensures
-          c.args.marks.now).1;
+pub returns-in-Some : goal.returns-in-Some
+returns-in-Some c =
+    let p = counts_refused c.args.counts c.args.columns.now _ c.short_table.ensures _ c.in-Some.is _ (ap Err c.over_limit.ensures) c.args.marks.now in record {
+      value = p.0;
+      marks_after = p.1;
     }
 
 pub returns : goal.returns
 returns c =
-    let held =
-    fronts_held c.args.counts _ _ _ _ _ _ _ _ _ _ c.front_of.ensures c.front_of-2.ensures
-    c.front_of-3.ensures c.front_of-4.ensures c.front_of-5.ensures c.front_of-6.ensures
-    c.front_of-faces.ensures c.front_of-ring_faces.ensures c.front_of-7.ensures c.front_of-8.ensures in
-    record {
-      value = (counts_fit c.args.counts (lent (goal.at.returns c).Start) _ c.short_table.ensures c.in-Nothing.is _ held
-          c.args.marks.now _ _ c.check-verdict.ensures.value c.check-verdict.ensures.marks_after _ c.checked_by.ensures).0;
-      marks_after = (counts_fit c.args.counts (lent (goal.at.returns c).Start) _ c.short_table.ensures c.in-Nothing.is _ held
-          c.args.marks.now _ _ c.check-verdict.ensures.value c.check-verdict.ensures.marks_after _ c.checked_by.ensures).1;
+    let told = c.checked_by.ensures ∙ ap (λ (t : Tile). checked_from c.args.counts t c.check-verdict.result) c.tile.view_is in
+    let p = counts_fit c.args.counts c.args.columns.now _ c.short_table.ensures (not_some _ c.in_default.not-Some) _ c.held-tile.ensures
+    c.args.marks.now _ _ c.check-verdict.ensures.value c.check-verdict.ensures.marks_after _ told in record {
+      value = p.0;
+      marks_after = p.1;
     }

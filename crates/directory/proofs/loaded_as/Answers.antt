@@ -1,9 +1,8 @@
 -- `directory::loaded_as` meets its contract: a refusal with the file that the definition gives it.
 use Rattle.directory.proofs.loaded_as.Goals as goal
 
-pub returns-in-Tile : goal.returns-in-Tile
-returns-in-Tile c = rw c.in-Tile.is
+pub returns-in-Ok : goal.returns-in-Ok
+returns-in-Ok c = rw c.in-Ok.is
 
-pub returns-in-Refused : goal.returns-in-Refused
-returns-in-Refused c =
-    rw (c.in-Refused.is, c.name.ensures, c.file_of_finding.ensures)
+pub returns-in-Err : goal.returns-in-Err
+returns-in-Err c = rw (c.in-Err.is, c.file_of_finding.ensures)

@@ -2,4 +2,4 @@
 use Rattle.directory.proofs.over_limit.Goals as goal
 
 pub returns : goal.returns
-returns c = rw (c.name.ensures, c.refuse.ensures)
+returns c = rw c.at.ensures

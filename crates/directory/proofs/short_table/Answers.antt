@@ -1,47 +1,52 @@
 -- `directory::short_table` meets its contract: table by table, as the definition has them.
-use mathlib.Core.Path.{◌≡◌, sym, ◌∙◌}
-use mathlib.Core.Bool.{cond}
-use Rattle.load.specs.Columns.{Columns, columns}
-use Rattle.report.specs.declared.FileName.TheVariants.{Cnd}
-use Rattle.directory.specs.declared.AtFault.TheVariants.{Is, Nothing}
-use Rattle.directory.specs.Columns.{short, short_of}
+use mathlib.Core.Path.{sym, ap, ◌∙◌}
 use borrow.Author.Tests.{lt-ltb, le-ltb}
+use Rattle.std.proofs.Common.{length}
+use Rattle.load.specs.Columns.{Columns}
+use Rattle.directory.specs.Columns.{short_of}
+use native.Mathlib.Omega.{arith}
 use Rattle.directory.proofs.short_table.Goals as goal
-use Rattle.directory.proofs.short_table.Goals.{Else-two_short, Start}
 
--- the columns as they were lent
-abbrev lent : Start → Columns
-lent c =
-    columns c.args.start_node.now c.args.end_node.now c.args.right_face.now c.args.left_face.now c.args.right_edge.now c.args.left_edge.now
-    c.args.ring_ptr.now c.args.fac_id.now c.args.start_edge.now c.args.first_edge.now
-
-pub returns-then-six_short : goal.returns-then-six_short
+pub returns-then-edges_short : goal.returns-then-edges_short
 unfolding short_of
-returns-then-six_short c = rw (sym c.six_short.ensures ∙ c.if-six_short.true)
+returns-then-edges_short c = rw (sym c.edges_short.ensures ∙ c.if-edges_short.true)
 
-pub returns-then-ring_ptr-counts : goal.returns-then-ring_ptr-counts
+pub returns-then-columns-counts : goal.returns-then-columns-counts
 unfolding short_of
-returns-then-ring_ptr-counts c =
-    rw (sym c.six_short.ensures ∙ c.if-six_short.false, lt-ltb _ _ c.if-ring_ptr-counts.true)
+returns-then-columns-counts c =
+    let faces = ap (λ (l : Columns). length l.ring_ptr) c.columns.view_is in
+    rw (sym c.edges_short.ensures ∙ c.if-edges_short.false, lt-ltb (length c.args.columns.now.ring_ptr) c.args.counts.faces (omega (arith, faces, c.if-columns-counts.true)))
 
-pub returns-then-two_short : goal.returns-then-two_short
+pub returns-then-rings_short : goal.returns-then-rings_short
 unfolding short_of
-returns-then-two_short c =
-    rw (sym c.six_short.ensures ∙ c.if-six_short.false, le-ltb _ _ c.if-ring_ptr-counts.false, sym c.two_short.ensures ∙ c.if-two_short.true)
-
--- only the node table is left
-past_rings : (c : Else-two_short) → short_of c.args.counts ((columns c.args.start_node.now c.args.end_node.now c.args.right_face.now c.args.left_face.now c.args.right_edge.now c.args.left_edge.now
-    c.args.ring_ptr.now c.args.fac_id.now c.args.start_edge.now c.args.first_edge.now)) ≡ cond (short c.args.counts.nodes c.args.first_edge.now) (Is Cnd) Nothing
-unfolding short_of
-past_rings c =
+returns-then-rings_short c =
+    let faces = ap (λ (l : Columns). length l.ring_ptr) c.columns.view_is in
     rw (
-      sym c.six_short.ensures ∙ c.if-six_short.false,
-      le-ltb _ _ c.if-ring_ptr-counts.false,
-      sym c.two_short.ensures ∙ c.if-two_short.false,
+      sym c.edges_short.ensures ∙ c.if-edges_short.false,
+      le-ltb (length c.args.columns.now.ring_ptr) c.args.counts.faces (omega (arith, faces, c.if-columns-counts.false)),
+      sym c.rings_short.ensures ∙ c.if-rings_short.true,
     )
 
-pub returns-then-first_edge-counts : goal.returns-then-first_edge-counts
-returns-then-first_edge-counts c = rw (past_rings (goal.at.returns-then-first_edge-counts c).Else-two_short, lt-ltb _ _ c.if-first_edge-counts.true)
+pub returns-then-columns-counts-2 : goal.returns-then-columns-counts-2
+unfolding short_of
+returns-then-columns-counts-2 c =
+    let faces = ap (λ (l : Columns). length l.ring_ptr) c.columns.view_is in
+    let nodes = ap (λ (l : Columns). length l.first_edge) c.columns.view_is in
+    rw (
+      sym c.edges_short.ensures ∙ c.if-edges_short.false,
+      le-ltb (length c.args.columns.now.ring_ptr) c.args.counts.faces (omega (arith, faces, c.if-columns-counts.false)),
+      sym c.rings_short.ensures ∙ c.if-rings_short.false,
+      lt-ltb (length c.args.columns.now.first_edge) c.args.counts.nodes (omega (arith, nodes, c.if-columns-counts-2.true)),
+    )
 
 pub returns : goal.returns
-returns c = rw (past_rings (goal.at.returns c).Else-two_short, le-ltb _ _ c.if-first_edge-counts.false)
+unfolding short_of
+returns c =
+    let faces = ap (λ (l : Columns). length l.ring_ptr) c.columns.view_is in
+    let nodes = ap (λ (l : Columns). length l.first_edge) c.columns.view_is in
+    rw (
+      sym c.edges_short.ensures ∙ c.if-edges_short.false,
+      le-ltb (length c.args.columns.now.ring_ptr) c.args.counts.faces (omega (arith, faces, c.if-columns-counts.false)),
+      sym c.rings_short.ensures ∙ c.if-rings_short.false,
+      le-ltb (length c.args.columns.now.first_edge) c.args.counts.nodes (omega (arith, nodes, c.if-columns-counts-2.false)),
+    )

@@ -5,11 +5,4 @@ use Rattle.directory.proofs.take_sizes.Goals as goal
 pub returns : goal.returns
 unfolding sizes_taken
 returns c =
-    rw (
-      c.larger.ensures,
-      c.larger-2.ensures,
-      c.larger-3.ensures,
-      c.larger-4.ensures,
-      c.larger-5.ensures,
-      c.larger-6.ensures,
-    )
+    rw (← c.lent.view_is, c.max.ensures, c.max-2.ensures, c.max-3.ensures, c.max-4.ensures, c.max-5.ensures, c.max-6.ensures)

@@ -2,10 +2,9 @@
 use Rattle.std.specs.Prelude.{◌≡◌, Bool, true, false, cond, List, ℕ, ◌+◌, ◌≤◌, ◌<◌, length, get_or, drop, ltb, eqb}
 use Rattle.laws.specs.Machine.{run}
 use Rattle.grammar.specs.Fields.{allowed}
-use Rattle.grammar.specs.Scan.{machine, answer}
+use Rattle.grammar.specs.Scan.{machine, Scan, answer}
 use Rattle.grammar.specs.declared.Class.{Class}
 use Rattle.grammar.specs.declared.Spot.{Spot}
-use Rattle.grammar.specs.declared.Scan.{Scan}
 
 -- the scan of s, where it stands in the spot and the bytes from place i on are left
 unfoldable pub rest_of : List ℕ → Spot → ℕ → Scan
@@ -28,8 +27,8 @@ pub record Shut (s : List ℕ) (i n least closer r : ℕ) : Type 0 where
   pub byte : get_or s (i + n) 0 ≡ closer
   pub enough : least ≤ n
 
--- from place i to place r, if r is not 0, the scan comes from one spot to the other, whatever columns it has
+-- from place i to place r the scan comes from one spot to the other, whatever columns it has
 pub record Past (s : List ℕ) (i r : ℕ) (before after : ℕ → Spot) : Type 0 where
   pub within : r ≤ length s
-  pub further : 0 < r → i < r
-  pub same : 0 < r → (cols : ℕ) → rest_of s (before cols) i ≡ rest_of s (after cols) r
+  pub further : i < r
+  pub same : (cols : ℕ) → rest_of s (before cols) i ≡ rest_of s (after cols) r

@@ -1,17 +1,15 @@
-use mathlib.Core.Path.{◌∙◌}
-use native.Mathlib.Omega.{arith}
+use Rattle.std.proofs.lemmas.Result.{err_from_is_err_and}
 use Rattle.header.proofs.HeaderLaws.{accepted_header, refused_header}
 use Rattle.header.proofs.JudgeLaws.{sound_passed, refused_by}
 use Rattle.header.proofs.read_header.Goals as goal
 
-pub returns-then-q-ne0 : goal.returns-then-q-ne0
-returns-then-q-ne0 c =
-    c.refused_header.ensures ∙ refused_header c.args.file.now c.judge_file-judged.result (refused_by c.args.file.now c.judge_file-judged.result c.judge_file-judged.ensures c.if-q-ne0.true)
-
-pub accepted_header-requires : goal.accepted_header-requires
-accepted_header-requires c =
-    omega (arith, (sound_passed c.args.file.now c.judge_file-judged.result c.judge_file-judged.ensures c.if-q-ne0.false).short)
+pub returns-in_err-accepted : goal.returns-in_err-accepted
+returns-in_err-accepted c =
+    let p = err_from_is_err_and c.from_residual.result c.from_residual.ensures.1 in
+    rw (p.1, p.2) (refused_header c.args.file.now c.in_err-accepted.field-0.0
+    (refused_by c.args.file.now c.judge_file.result c.judge_file.ensures c.in_err-accepted.field-0.0 c.in_err-accepted.was))
 
 pub returns : goal.returns
 returns c =
-    c.accepted_header.ensures ∙ accepted_header c.args.file.now c.judge_file-judged.result (sound_passed c.args.file.now c.judge_file-judged.result c.judge_file-judged.ensures c.if-q-ne0.false)
+    accepted_header c.args.file.now c.in_ok-accepted.accepted
+    (sound_passed c.args.file.now c.judge_file.result c.judge_file.ensures c.in_ok-accepted.accepted c.in_ok-accepted.was)

@@ -1,28 +1,24 @@
 -- The tests in the stages in which the code makes them, and what one stage hands to the next. Joined they are the header's tests
 -- in their order: no stage adds one.
-use Rattle.std.specs.Prelude.{Bool, cond, not, ◌&&◌, ◌||◌, List, [], ◌∷◌, ◌++◌, ℕ, zero, suc, pred, ◌+◌, ◌-◌, ◌*◌, eqb, ltb, length, get_or, replicate}
+use Rattle.std.specs.Prelude.{Bool, not, ◌&&◌, ◌||◌, List, [], ◌∷◌, ◌++◌, ℕ, zero, suc, pred, ◌+◌, ◌-◌, ◌*◌, eqb, ltb, length, get_or, replicate, Result, Ok, Err}
 use Rattle.laws.specs.Lowest.{lowest}
 use Rattle.laws.specs.Buffer.{one_to}
 use Rattle.limits.specs.Limits.{most_text, most_columns}
 use Rattle.refusal.specs.declared.Refusal.{Refusal}
-use Rattle.refusal.specs.Order.{fine, refused_if, located, lowest_of, first_of}
+use Rattle.refusal.specs.Order.{refusal, refused_if, located, lowest_of, first_of, unless}
 use Rattle.number.specs.declared.Order.{Order}
-use Rattle.number.specs.declared.Order.TheVariants.{Least}
-use Rattle.grammar.specs.declared.Scan.{Scan}
+use Rattle.grammar.specs.Scan.{Scan}
 use Rattle.field.specs.Fields.{type_of, widest, is_integer, most_count}
-use Rattle.header.specs.declared.Answer.TheVariants.{Accepted}
 use Rattle.header.specs.declared.Definition.{Definition}
-use Rattle.header.specs.declared.Header.{Header}
 use Rattle.header.specs.declared.ColumnLayout.{ColumnLayout}
 use Rattle.header.specs.declared.Kept.{Kept}
 use Rattle.header.specs.declared.Judged.{Judged}
-use Rattle.header.specs.declared.Step.{Step}
 use Rattle.header.specs.Places.{first_place, place_after, column}
-use Rattle.header.specs.Names.{named_before, names_of, no_names}
+use Rattle.header.specs.Names.{named_before, names_of}
 use Rattle.header.specs.Judge.{order_of_file, text_length, head_of, column_count, grammar_refusal, columns_of, key_p, sound, column_refusal}
 use Rattle.header.specs.Judge.{id_column, id_wrong, header_refusal}
 use Rattle.header.specs.Layouts.{kind_of, count_kept, blank_column, laid_out, row_width}
-use Rattle.header.specs.Steps.{starts_at, step_from}
+use Rattle.header.specs.Steps.{Step, starts_at, step_from}
 
 -- the four bytes of L and the longest text
 abbrev pub most_head : ℕ
@@ -48,7 +44,6 @@ laid_after d offset = record { kind = kind_of (type_of d.kind); star = d.star; c
 unfoldable pub kept_of : List ℕ → ℕ → Kept
 kept_of s n =
     record {
-      wrong = 0;
       names = names_of s n;
       keys = one_to (λ k. (column s k).key) n ++ replicate (most_columns - n) 0;
       cols = laid_out s n ++ replicate (most_columns - n) blank_column;
@@ -57,25 +52,12 @@ kept_of s n =
       after = place_after s n;
     }
 
--- where a column is wrong, it alone
-abbrev pub none_kept : ℕ → Kept
-none_kept wrong =
-    record {
-      wrong = wrong;
-      names = no_names;
-      keys = replicate most_columns 0;
-      cols = replicate most_columns blank_column;
-      width = 0;
-      first = 0;
-      after = 0;
-    }
-
 -- by the lowest unsound column, or 0
-abbrev pub gathered_as : List ℕ → ℕ → ℕ → Kept
-gathered_as s n zero = kept_of s n
-gathered_as s n (suc k) = none_kept (suc k)
+abbrev pub gathered_as : List ℕ → ℕ → ℕ → Result Kept Refusal
+gathered_as s n zero = Ok (kept_of s n)
+gathered_as s n (suc k) = Err (refusal 4 (suc k))
 
-unfoldable pub gathered_of : List ℕ → ℕ → Kept
+unfoldable pub gathered_of : List ℕ → ℕ → Result Kept Refusal
 gathered_of s n = gathered_as s n (lowest (unsound s) n)
 
 -- 6 by what was kept
@@ -104,31 +86,32 @@ column_tests s n = lowest_of (column_refusal s) n ∷ refused_if (ltb most_colum
 unfoldable pub text_tests : List ℕ → Scan → List Refusal
 text_tests s scan = grammar_refusal scan ∷ column_tests s (columns_of scan)
 
--- what an accepted header of the head s hands on
-abbrev pub accepted_of : Order → ℕ → List ℕ → ℕ → Judged
-accepted_of order start s n = record { refusal = fine; order = order; start = start; columns = n; id = id_column s n; kept = kept_of s n }
-
--- the header that it is told as
-abbrev pub handed_on : Judged → Header
-handed_on f =
+-- what is handed on of what was kept of n columns, of which `id` is one
+abbrev pub judged_from : Order → ℕ → ℕ → ℕ → Kept → Judged
+judged_from order start n id kept =
     record {
-      answer = Accepted;
-      layout = record { order = f.order; start = f.start; columns = f.columns; id = f.id; width = f.kept.width; cols = f.kept.cols };
-      names = f.kept.names;
+      header =
+          record {
+            layout = record { order = order; start = start; columns = n; id = id; width = kept.width; cols = kept.cols };
+            names = kept.names;
+          };
+      first = kept.first;
+      after = kept.after;
     }
 
-abbrev pub refused_with : Refusal → Judged
-refused_with q = record { refusal = q; order = Least; start = 0; columns = 0; id = 0; kept = none_kept 0 }
+-- of an accepted header of the head s
+abbrev pub accepted_of : Order → ℕ → List ℕ → ℕ → Judged
+accepted_of order start s n = judged_from order start n (id_column s n) (kept_of s n)
 
 -- the answer: the refusal, or what is handed on
-abbrev pub judged : Refusal → Judged → Judged
-judged q f = cond (eqb q.number 0) f (refused_with q)
+abbrev pub Judgement : Type 0
+Judgement = Result Judged Refusal
 
-unfoldable pub judged_text : Order → List ℕ → Scan → Judged
-judged_text order s scan = judged (first_of (text_tests s scan)) (accepted_of order (length s) s (columns_of scan))
+unfoldable pub judged_text : Order → List ℕ → Scan → Judgement
+judged_text order s scan = unless (first_of (text_tests s scan)) (accepted_of order (length s) s (columns_of scan))
 
-unfoldable pub judged_file : List ℕ → Judged
-judged_file file = judged (header_refusal file) (accepted_of (order_of_file file) (text_length file + 4) (head_of file) (column_count file))
+unfoldable pub judged_file : List ℕ → Judgement
+judged_file file = unless (header_refusal file) (accepted_of (order_of_file file) (text_length file + 4) (head_of file) (column_count file))
 
 -- the step at a place of an accepted header of n columns
 unfoldable pub step_in : List ℕ → ℕ → ℕ → Step

@@ -1,20 +1,26 @@
-use Rattle.load.proofs.TopLaws.{found_opening, found_fit, found_rows}
-use Rattle.load.specs.Sources.{files}
+use mathlib.Core.Path.{sym, ◌∙◌}
+use Rattle.std.proofs.lemmas.Result.{err_from_is_err_and}
+use Rattle.load.proofs.TopLaws.{finds_opening, finds_fit, finds_rows, finds_nothing}
 use Rattle.load.proofs.judge.Goals as goal
 
-pub returns-then-at_opening-ne0 : goal.returns-then-at_opening-ne0
-returns-then-at_opening-ne0 c =
-    let f = files c.args.edg.now c.args.edx.now c.args.fac.now c.args.fax.now c.args.rng.now c.args.rnx.now c.args.cnd.now c.args.cnx.now in
-    found_opening f c.args.most c.args.lengths _ c.open_all-opened.ensures _ c.find_columns-columns.ensures c.if-at_opening-ne0.true
+pub returns-in_err-opened : goal.returns-in_err-opened
+returns-in_err-opened c =
+    let p = err_from_is_err_and c.from_residual.result c.from_residual.ensures.1 in
+    rw (p.1, p.2) (sym (finds_opening c.args.sources.now c.args.most c.args.lengths _ (sym c.open_all.ensures ∙ c.in_err-opened.was)))
 
-pub returns-then-before_rows-ne0 : goal.returns-then-before_rows-ne0
-returns-then-before_rows-ne0 c =
-    let f = files c.args.edg.now c.args.edx.now c.args.fac.now c.args.fax.now c.args.rng.now c.args.rnx.now c.args.cnd.now c.args.cnx.now in
-    found_fit f c.args.most c.args.lengths _ c.open_all-opened.ensures _ c.find_columns-columns.ensures c.if-at_opening-ne0.false _
-    c.judge_fit-before_rows.ensures c.if-before_rows-ne0.true
+pub returns-in_err-columns : goal.returns-in_err-columns
+returns-in_err-columns c =
+    let p = err_from_is_err_and c.from_residual-in_err-columns.result c.from_residual-in_err-columns.ensures.1 in
+    rw (p.1, p.2) (sym (finds_fit c.args.sources.now c.args.most c.args.lengths _ (sym c.open_all.ensures ∙ c.in_ok-opened.was)
+    _ (sym c.judge_fit.ensures ∙ c.in_err-columns.was)))
+
+pub returns-in_err-judge_all_rows : goal.returns-in_err-judge_all_rows
+returns-in_err-judge_all_rows c =
+    let p = err_from_is_err_and c.from_residual-in_err-judge_all_rows.result c.from_residual-in_err-judge_all_rows.ensures.1 in
+    rw (p.1, p.2) (sym (finds_rows c.args.sources.now c.args.most c.args.lengths _ (sym c.open_all.ensures ∙ c.in_ok-opened.was)
+    _ (sym c.judge_fit.ensures ∙ c.in_ok-columns.was) _ (sym c.judge_all_rows.ensures ∙ c.in_err-judge_all_rows.was)))
 
 pub returns : goal.returns
 returns c =
-    let f = files c.args.edg.now c.args.edx.now c.args.fac.now c.args.fax.now c.args.rng.now c.args.rnx.now c.args.cnd.now c.args.cnx.now in
-    found_rows f c.args.most c.args.lengths _ c.open_all-opened.ensures _ c.find_columns-columns.ensures c.if-at_opening-ne0.false _
-    c.judge_fit-before_rows.ensures c.if-before_rows-ne0.false _ c.judge_all_rows-at_rows.ensures
+    sym (finds_nothing c.args.sources.now c.args.most c.args.lengths _ (sym c.open_all.ensures ∙ c.in_ok-opened.was)
+    _ (sym c.judge_fit.ensures ∙ c.in_ok-columns.was) (sym c.judge_all_rows.ensures ∙ c.in_ok-judge_all_rows.was))

@@ -1,30 +1,38 @@
 -- The ten columns found by where the names of the columns lie, which the opening gave: no header is judged anew. That these are the columns
 -- of the definition is proved in NamedLaws.
-use Rattle.std.specs.Prelude.{List, [], ℕ}
-use Rattle.header.specs.declared.Names.{Names}
+use Rattle.std.specs.Prelude.{cond, List, ℕ, eqb, Result}
 use Rattle.header.specs.Names.{column_among}
-use Rattle.opening.specs.declared.Table.{Table}
+use Rattle.opening.specs.declared.Opened.{Opened}
 use Rattle.opening.specs.Opening.{opened_of}
 use Rattle.load.specs.declared.TableName.{TableName}
 use Rattle.load.specs.declared.TableName.TheVariants.{Edg, Fac, Rng, Cnd}
-use Rattle.load.specs.declared.Tables.{Tables}
-use Rattle.load.specs.declared.TableNames.{TableNames}
-use Rattle.load.specs.Sources.{Files, files, by_table, file_of, index_of, table_in, name_at, fitting, ten}
-
-abbrev pub names_in : TableNames → TableName → Names
-names_in s n = by_table s.edg s.fac s.rng s.cnd n
+use Rattle.load.specs.declared.OfTables.{OfTables}
+use Rattle.load.specs.declared.Finding.{Finding}
+use Rattle.load.specs.Sources.{Files, Tables, given, file_of, index_of, in_tables, name_at, table_at, fitting, ten}
+use Rattle.load.specs.Load.{no_finding, column_wrong, unless_found}
 
 -- as the openings left them
-abbrev pub names_given : Files → ℕ → TableName → Names
-names_given f most n = (opened_of (file_of f n) (index_of f n) most).names
+abbrev pub opened_in : Files → ℕ → TableName → Opened
+opened_in f most n = given (opened_of (file_of f n) (index_of f n) most)
 
-unfoldable pub names_of : Files → ℕ → TableNames
-names_of f most = record { edg = names_given f most Edg; fac = names_given f most Fac; rng = names_given f most Rng; cnd = names_given f most Cnd }
+unfoldable pub opened_four : Files → ℕ → OfTables Opened
+opened_four f most = record { edg = opened_in f most Edg; fac = opened_in f most Fac; rng = opened_in f most Rng; cnd = opened_in f most Cnd }
 
--- the column of place k, by its name
-unfoldable pub column_by : List ℕ → Table → Names → ℕ → List ℕ → ℕ
-column_by file t names k name = fitting t.layout k (column_among file names t.layout.columns name)
+-- the tables among what was opened
+abbrev pub tables_among : OfTables Opened → Tables
+tables_among o = record { edg = o.edg.table; fac = o.fac.table; rng = o.rng.table; cnd = o.cnd.table }
 
-unfoldable pub columns_by : List ℕ → List ℕ → List ℕ → List ℕ → Tables → TableNames → List ℕ
-columns_by edg fac rng cnd t names =
-    ten (λ n k. column_by (file_of (files edg [] fac [] rng [] cnd []) n) (table_in t n) (names_in names n) k (name_at k))
+-- the column of place k in what was opened of its table, by its name
+unfoldable pub column_by : List ℕ → Opened → ℕ → List ℕ → ℕ
+column_by file o k name = fitting o.table.layout k (column_among file o.names o.table.layout.columns name)
+
+unfoldable pub columns_by : Files → OfTables Opened → List ℕ
+columns_by f o = ten (λ n k. column_by (file_of f n) (in_tables o n) k (name_at k))
+
+-- 17 for a place without its column
+abbrev pub place_finding : ℕ → ℕ → Finding
+place_finding k c = cond (eqb c 0) (column_wrong k) no_finding
+
+unfoldable pub column_placed : Files → OfTables Opened → ℕ → List ℕ → Result ℕ Finding
+column_placed f o k name =
+    let c = column_by (file_of f (table_at k)) (in_tables o (table_at k)) k name in unless_found (place_finding k c) c

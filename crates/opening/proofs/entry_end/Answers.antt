@@ -7,4 +7,4 @@ returns-then-index-k c =
 
 pub returns : goal.returns
 returns c =
-    by_entry c.args.order c.args.index.now c.args.first c.args.k _ _ c.if-k-eq0.false c.read4.ensures c.read4-2.ensures
+    by_entry c.args.order c.args.index.now c.args.first c.args.k _ _ c.if-k-eq0.false c.read.ensures c.read-2.ensures

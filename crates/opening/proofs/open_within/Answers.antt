@@ -1,25 +1,21 @@
-use Rattle.opening.proofs.OpeningLaws.{opened_refused, opened_accepted, header_accepted, header_refused}
-use Rattle.opening.specs.Opening.{table_from}
-use lib.ListN.{length}
-use mathlib.Core.Path.{◌∙◌}
+use Rattle.std.proofs.Common.{rules, ◌≡◌, sym, ◌∙◌, Err}
+use Rattle.opening.proofs.OpeningLaws.{header_refused, table_refused, table_opened}
 use Rattle.opening.proofs.open_within.Goals as goal
 
-pub returns-in-Refused : goal.returns-in-Refused
-returns-in-Refused c =
-    c.not_opened.ensures ∙ header_refused c.args.file.now c.args.index.now c.args.most
-    c.read_header-head.result c.read_header-head.ensures c.in-Refused.q c.in-Refused.is
+pub returns-in_err-head : goal.returns-in_err-head
+returns-in_err-head c =
+    let x = c.in_err-head.field-0.0 in
+    let r : c.from_residual.result ≡ Err x = search rules in
+    r ∙ sym (header_refused c.args.file.now c.args.index.now c.args.most x (sym c.read_header.ensures ∙ c.in_err-head.was))
 
-pub returns-then-judged-ne0 : goal.returns-then-judged-ne0
-returns-then-judged-ne0 c =
-    header_accepted c.args.file.now c.args.index.now c.args.most c.read_header-head.result c.read_header-head.ensures c.not_opened-then-judged-ne0.result
-    c.in-Accepted.is
-    (rw (← c.judge_opening-judged.ensures)
-    (c.not_opened-then-judged-ne0.ensures ∙ opened_refused c.judge_opening-judged.result (table_from c.read_header-head.result.layout
-    c.args.index.now (length c.args.file.now)) c.read_header-head.result.names
-    c.if-judged-ne0.true))
+pub returns-in_err-judge_opening : goal.returns-in_err-judge_opening
+returns-in_err-judge_opening c =
+    let x = c.in_err-judge_opening.field-0.0 in
+    let r : c.from_residual-in_err-judge_opening.result ≡ Err x = search rules in
+    r ∙ sym (table_refused c.args.file.now c.args.index.now c.args.most _ (sym c.read_header.ensures ∙ c.in_ok-head.was) x
+    (sym c.judge_opening.ensures ∙ c.in_err-judge_opening.was))
 
 pub returns : goal.returns
 returns c =
-    header_accepted c.args.file.now c.args.index.now c.args.most c.read_header-head.result c.read_header-head.ensures _ c.in-Accepted.is
-    (rw (c.in-Accepted.is, ← c.judge_opening-judged.ensures, c.count_rows-rows.ensures)
-    (opened_accepted c.judge_opening-judged.result (table_from c.read_header-head.result.layout c.args.index.now (length c.args.file.now)) c.read_header-head.result.names c.if-judged-ne0.false))
+    sym (table_opened c.args.file.now c.args.index.now c.args.most _ (sym c.read_header.ensures ∙ c.in_ok-head.was) _ c.count_rows.ensures
+    (sym c.judge_opening.ensures ∙ c.in_ok-judge_opening.was))

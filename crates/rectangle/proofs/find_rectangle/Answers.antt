@@ -1,44 +1,34 @@
-use mathlib.Core.Path.{sym, ◌∙◌}
-use Rattle.rectangle.specs.Rectangles.{rectangle_of}
-use Rattle.rectangle.proofs.RectangleLaws.{found_rectangle}
+use mathlib.Core.Path.{◌≡◌, sym, ap, ◌∙◌}
+use mathlib.Core.Bool.{true}
+use Prim.Native.Nat.{pred, ◌-◌}
+use native.Mathlib.Omega.{arith}
+use Rattle.std.proofs.Common.{rules, Err}
+use Rattle.table.specs.Rows.{column_at}
+use Rattle.table.proofs.RowLaws.{column_there}
+use Rattle.rectangle.specs.Rectangles.{answer, is_coordinates}
+use Rattle.rectangle.proofs.RectangleLaws.{refused_rectangle, found_rectangle}
 use Rattle.rectangle.proofs.find_rectangle.Goals as goal
+use Rattle.rectangle.proofs.find_rectangle.Goals.{Else-not-has_coordinates}
 
-pub returns-then-no_such_row : goal.returns-then-no_such_row
-unfolding rectangle_of
-returns-then-no_such_row c = simp (← c.no_rectangle.ensures, c.if-no_such_row.true, ← c.no_such_row.ensures)
+-- the column has coordinates
+drawable : (c : Else-not-has_coordinates) → is_coordinates (column_at c.args.table.layout c.args.column).kind ≡ true
+drawable c =
+    let z = column_there c.args.table.layout c.args.column (sym c.no_such_column.ensures ∙ c.if-no_such_column.false) in
+    let q : pred c.args.column ≡ c.args.column - 1 = omega (arith, z.0) in
+    rw q (search rules)
 
-pub returns-then-no_such_column : goal.returns-then-no_such_column
-unfolding rectangle_of
-returns-then-no_such_column c =
-    simp (
-      ← c.no_rectangle-then-no_such_column.ensures,
-      c.if-no_such_column.true,
-      ← c.no_such_column.ensures,
-      c.if-no_such_row.false,
-      ← c.no_such_row.ensures,
-    )
-
-pub kind_at-kind-requires : goal.kind_at-kind-requires
-kind_at-kind-requires c = sym c.no_such_column.ensures ∙ c.if-no_such_column.false
-
-pub returns-then-has_coordinates : goal.returns-then-has_coordinates
-returns-then-has_coordinates c =
-    c.found_in.ensures
-    ∙ found_rectangle c.args.file.now c.args.index.now c.args.table c.args.row c.args.column
+pub returns-in_err-value : goal.returns-in_err-value
+returns-in_err-value c =
+    let x = c.in_err-value.field-0.0 in
+    let r : c.from_residual.result ≡ Err x = search rules in
+    ap answer r ∙ sym (refused_rectangle c.args.file.now c.args.index.now c.args.table c.args.row c.args.column
     (sym c.no_such_row.ensures ∙ c.if-no_such_row.false) (sym c.no_such_column.ensures ∙ c.if-no_such_column.false)
-    c.kind_at-kind.result c.kind_at-kind.ensures (sym c.has_coordinates.ensures ∙ c.if-has_coordinates.true)
-    c.read_value.result c.read_value.ensures
+    (drawable (goal.at.returns-in_err-value c).Else-not-has_coordinates) x (sym c.read_value.ensures ∙ c.in_err-value.was))
 
 pub returns : goal.returns
-unfolding rectangle_of
 returns c =
-    simp (
-      ← c.no_rectangle-2.ensures,
-      c.if-has_coordinates.false,
-      ← c.has_coordinates.ensures,
-      ← c.kind_at-kind.ensures,
-      c.if-no_such_column.false,
-      ← c.no_such_column.ensures,
-      c.if-no_such_row.false,
-      ← c.no_such_row.ensures,
-    )
+    let z = column_there c.args.table.layout c.args.column (sym c.no_such_column.ensures ∙ c.if-no_such_column.false) in
+    let q : c.args.column - 1 ≡ pred c.args.column = omega (arith, z.0) in
+    c.in_part.ensures ∙ rw (q, c.part_of.ensures) (found_rectangle c.args.file.now c.args.index.now c.args.table c.args.row c.args.column
+    (sym c.no_such_row.ensures ∙ c.if-no_such_row.false) (sym c.no_such_column.ensures ∙ c.if-no_such_column.false)
+    (drawable (goal.at.returns c).Else-not-has_coordinates) c.in_ok-value.value (sym c.read_value.ensures ∙ c.in_ok-value.was))

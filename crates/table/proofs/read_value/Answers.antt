@@ -1,60 +1,62 @@
-use mathlib.Core.Path.{◌≡◌, sym}
-use mathlib.Core.Bool.{false}
-use Prim.Native.Nat.{◌≤◌, ◌<◌}
-use native.Mathlib.Numerals.{sub-one}
+use mathlib.Core.Path.{◌≡◌, refl, sym, ◌∙◌}
+use Prim.Native.Nat.{pred, ◌-◌}
 use native.Mathlib.Omega.{arith}
-use Rattle.limits.specs.Limits.{most_rows}
+use Rattle.std.proofs.Common.{rules, Err}
+use Rattle.table.specs.Rows.{column_place}
 use Rattle.table.specs.Values.{value_of}
-use Rattle.table.specs.Rows.{row_of, no_such_column}
-use Rattle.table.proofs.RowLaws.{row_there}
+use Rattle.table.proofs.PlanLaws.{row_refused, row_passed, row_fine, judged_inside, judged_place}
+use Rattle.table.proofs.RowLaws.{inside, column_there}
+use Rattle.table.proofs.WalkLaws.{place_within}
 use Rattle.table.proofs.read_value.Goals as goal
-use Rattle.table.proofs.read_value.Goals.{Else-no_such}
+use Rattle.table.proofs.read_value.Goals.{After-place-place}
 
-pub returns-then-no_such_row : goal.returns-then-no_such_row
+pub returns-in_err-judge_row : goal.returns-in_err-judge_row
 unfolding value_of
-returns-then-no_such_row c = simp (← c.refuse.ensures, c.if-no_such_row.true, ← c.no_such_row.ensures)
+returns-in_err-judge_row c =
+    let x = c.in_err-judge_row.field-0.0 in
+    let r : c.from_residual.result ≡ Err x = search rules in
+    let f = row_refused c.args.file.now c.args.index.now c.args.table c.args.row _ refl
+    (sym c.no_such_row.ensures ∙ c.if-no_such_row.false) _ _ c.lies-lies.ensures.start c.lies-lies.ensures.end x
+    (sym c.judge_row.ensures.value ∙ c.in_err-judge_row.was) in
+    r ∙ simp (f, c.if-lacks_column.false, ← c.lacks_column.ensures, c.if-no_such_row.false, ← c.no_such_row.ensures)
 
-pub returns-then-no_such : goal.returns-then-no_such
-unfolding value_of
-returns-then-no_such c =
-    simp (
-      ← c.refuse-then-no_such.ensures,
-      c.if-no_such.true,
-      ← c.no_such.ensures,
-      ← c.count_columns.ensures,
-      c.if-no_such_row.false,
-      ← c.no_such_row.ensures,
-    )
+-- the judgement has found where the column starts
+placed : (c : After-place-place) → c.place-place.result
+    ≡ column_place c.args.file.now c.args.table.layout c.lies-lies.result.start c.lies-lies.result.end c.args.column
+placed c =
+    let there = sym c.lacks_column.ensures ∙ c.if-lacks_column.false in
+    let z = column_there c.args.table.layout c.args.column there in
+    let q : pred c.args.column ≡ c.args.column - 1 = omega (arith, z.0) in
+    c.place-place.ensures ∙ rw c.judge_row.ensures.places_after
+    (judged_place c.args.file.now c.args.table.layout c.lies-lies.result.start c.lies-lies.result.end c.args.row
+    (row_fine c.args.file.now c.args.index.now c.args.table c.args.row _ refl
+    (sym c.no_such_row.ensures ∙ c.if-no_such_row.false) _ _ c.lies-lies.ensures.start c.lies-lies.ensures.end
+    (sym c.judge_row.ensures.value ∙ c.in_ok-judge_row.was)) c.args.column _ _ there refl (rw q))
 
--- the row is one of the table's, so that the row before it has an end too
-row_is : (c : Else-no_such) → (0 < c.args.row) × (c.args.row ≤ most_rows)
-row_is c =
-    let h = row_there c.args.table c.args.row _ c.no_such_row.ensures c.if-no_such_row.false in (h.1, h.2)
-
-column_is : (c : Else-no_such) → no_such_column c.args.table.layout c.args.column ≡ false
-column_is c = rw (← c.count_columns.ensures, ← c.no_such.ensures) c.if-no_such.false
-
-pub overflow_sub-row : goal.overflow_sub-row
-overflow_sub-row c = omega (arith, (row_is c).0)
-
-pub bound_of-start-requires : goal.bound_of-start-requires
-bound_of-start-requires c = omega (arith, (row_is c).1)
-
-pub bound_of-end-requires : goal.bound_of-end-requires
-bound_of-end-requires c = (row_is (goal.at.bound_of-end-requires c).Else-no_such).1
-
-pub value_between-requires : goal.value_between-requires
-value_between-requires c = column_is (goal.at.value_between-requires c).Else-no_such
+pub show-requires : goal.show-requires
+show-requires c =
+    let start = c.lies-lies.result.start in
+    let end = c.lies-lies.result.end in
+    let w = inside c.args.file.now start end (judged_inside c.args.file.now c.args.table.layout start end c.args.row
+    (row_fine c.args.file.now c.args.index.now c.args.table c.args.row _ refl
+    (sym c.no_such_row.ensures ∙ c.if-no_such_row.false) _ _ c.lies-lies.ensures.start c.lies-lies.ensures.end
+    (sym c.judge_row.ensures.value ∙ c.in_ok-judge_row.was))) in
+    (rw (placed (goal.at.show-requires c).After-place-place) (place_within c.args.file.now c.args.table.layout start end c.args.column w.0 w.1), w.1)
 
 pub returns : goal.returns
-unfolding value_of row_of
+unfolding value_of
 returns c =
-    simp (
-      sym (sub-one c.args.row),
-      ← c.bound_of-start.ensures,
-      ← c.bound_of-end.ensures,
-      column_is (goal.at.returns c).Else-no_such,
+    let f = row_passed c.args.file.now c.args.index.now c.args.table c.args.row _ refl
+    (sym c.no_such_row.ensures ∙ c.if-no_such_row.false) _ _ c.lies-lies.ensures.start c.lies-lies.ensures.end
+    (sym c.judge_row.ensures.value ∙ c.in_ok-judge_row.was) in
+    let z = column_there c.args.table.layout c.args.column (sym c.lacks_column.ensures ∙ c.if-lacks_column.false) in
+    let q : pred c.args.column ≡ c.args.column - 1 = omega (arith, z.0) in
+    c.show.ensures ∙ simp (
+      f,
+      c.if-lacks_column.false,
+      ← c.lacks_column.ensures,
       c.if-no_such_row.false,
       ← c.no_such_row.ensures,
+      placed (goal.at.returns c).After-place-place,
+      q,
     )
-    c.value_between.ensures

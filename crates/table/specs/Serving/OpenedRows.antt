@@ -3,7 +3,7 @@
 use Rattle.std.specs.Prelude.{List, ℕ, pred}
 use Rattle.header.specs.declared.Layout.{Layout}
 use Rattle.opening.specs.declared.Table.{Table}
-use Rattle.opening.specs.Words.{layout_of}
+use Rattle.header.specs.Layouts.{layout_of}
 use Rattle.table.specs.Rows.{bound_of}
 
 pub record OpenedRow : Type 0 where

@@ -5,7 +5,7 @@ use lib.Dec.{ltb}
 use borrow.Author.Tests.{le-ltb, lt-ltb}
 use Rattle.limits.specs.Limits.{most_bytes}
 use Rattle.directory.specs.Files.{too_large}
-use Rattle.directory.specs.declared.AtFault.TheVariants.{Is, Nothing}
+use Rattle.std.proofs.Common.{Some, None}
 use Rattle.report.specs.declared.FileName.TheVariants.{Cnx}
 use Rattle.directory.proofs.files.too_large.Goals as goal
 use Rattle.directory.proofs.files.too_large.Goals.{Else-sizes-gt-MOST_BYTES-5}
@@ -40,7 +40,7 @@ returns-then-sizes-gt-MOST_BYTES-5 c =
     )
 
 -- the five files that are always read are not too large
-small : (c : Else-sizes-gt-MOST_BYTES-5) → too_large c.args.sizes c.args.cnx_read ≡ cond c.args.cnx_read (cond (ltb most_bytes c.args.sizes.cnx) (Is Cnx) Nothing) Nothing
+small : (c : Else-sizes-gt-MOST_BYTES-5) → too_large c.args.sizes c.args.cnx_read ≡ cond c.args.cnx_read (cond (ltb most_bytes c.args.sizes.cnx) (Some Cnx) None) None
 unfolding too_large
 small c =
     simp (

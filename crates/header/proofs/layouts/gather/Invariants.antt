@@ -1,5 +1,6 @@
 use Rattle.header.specs.Serving.Stages.{sound_size, unsound}
 use Rattle.header.specs.Layouts.{some_varies, bytes_of_all, blank_column, laid_out}
+use Rattle.header.specs.Names.{span_of, no_span}
 use Rattle.header.specs.Places.{first_place, place_after, column}
 use Rattle.limits.specs.Limits.{most_columns}
 use Rattle.laws.specs.Buffer.{one_to}
@@ -12,17 +13,12 @@ use Rattle.header.proofs.layouts.gather.Given as goal
 
 abbrev pub invariant-loop-k : goal.invariant-loop-k
 invariant-loop-k l =
-    (l.k ≤ l.n)
-    × (l.at ≡ place_after l.head l.k)
+    (l.at ≡ place_after l.head l.k)
     × (l.bytes ≡ bytes_of_all l.head l.k)
     × (l.bytes ≤ l.k * sound_size)
     × (l.varying ≡ some_varies l.head l.k)
     × (l.cols ≡ laid_out l.head l.k ++ replicate (most_columns - l.k) blank_column)
-    × (l.names.starts ≡ one_to (λ j. (column l.head j).name.start) l.k ++ replicate (most_columns - l.k) 0)
-    × (l.names.ends ≡ one_to (λ j. (column l.head j).name.end) l.k ++ replicate (most_columns - l.k) 0)
+    × (l.names.spans ≡ one_to (span_of l.head) l.k ++ replicate (most_columns - l.k) no_span)
     × (l.keys ≡ one_to (λ j. (column l.head j).key) l.k ++ replicate (most_columns - l.k) 0)
     × (l.first ≡ first_place l.head)
     × None (unsound l.head) l.k
-
-abbrev pub decreases-loop-k : goal.decreases-loop-k
-decreases-loop-k l = l.n - l.k

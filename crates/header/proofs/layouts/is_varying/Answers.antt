@@ -5,6 +5,6 @@ pub returns-then-d : goal.returns-then-d
 unfolding varies
 returns-then-d c = simp c.if-d.true
 
-pub returns : goal.returns
+pub returns-else-d : goal.returns-else-d
 unfolding varies
-returns c = simp (← c.is_triplet.ensures, ← c.kind_of.ensures, c.if-d.false)
+returns-else-d c = simp (← c.is_triplet.ensures, ← c.kind_of.ensures, c.if-d.false)

@@ -1,15 +1,11 @@
-use borrow.Author.Tests.{eq-eqb, ne_eqb}
+use Rattle.std.proofs.Common.{arith}
 use Rattle.header.specs.Judge.{key_listed}
 use Rattle.header.proofs.layouts.key_listed.Goals as goal
 
-pub returns-then-key-eq80 : goal.returns-then-key-eq80
+pub returns-in-80 : goal.returns-in-80
 unfolding key_listed
-returns-then-key-eq80 c = simp (eq-eqb _ _ c.if-key-eq80.true)
+returns-in-80 c = grind arith
 
-pub returns-then-key-eq85 : goal.returns-then-key-eq85
+pub returns-in_default : goal.returns-in_default
 unfolding key_listed
-returns-then-key-eq85 c = simp (eq-eqb _ _ c.if-key-eq85.true, ne_eqb _ _ c.if-key-eq80.false)
-
-pub returns-else-key-eq85 : goal.returns-else-key-eq85
-unfolding key_listed
-returns-else-key-eq85 c = simp (ne_eqb _ _ c.if-key-eq85.false, ne_eqb _ _ c.if-key-eq80.false)
+returns-in_default c = grind arith

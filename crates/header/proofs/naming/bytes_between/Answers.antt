@@ -1,17 +1,8 @@
-use Rattle.laws.proofs.PlaceLaws.{part_beyond, part_cut}
-use native.Mathlib.Omega.{arith}
-use mathlib.Core.Path.{◌≡◌}
-use Prim.Native.Nat.{◌-◌}
+use Rattle.header.proofs.NameLaws.{part_within, part_empty}
 use Rattle.header.proofs.naming.bytes_between.Goals as goal
 
-pub returns-then-file-start : goal.returns-then-file-start
-returns-then-file-start c =
-    part_beyond c.args.file.now c.args.start (c.args.end - c.args.start) (omega arith)
+pub returns-then-start-end : goal.returns-then-start-end
+returns-then-start-end c = part_within c.args.file.now c.args.start c.args.end c.min-end.result c.min-end.ensures
 
-pub returns-then-file-end : goal.returns-then-file-end
-returns-then-file-end c =
-    part_cut c.args.file.now c.args.start (c.args.end - c.args.start) (omega arith)
-
-pub returns-then-end-start : goal.returns-then-end-start
-returns-then-end-start c =
-    let z : c.args.end - c.args.start ≡ 0 = omega arith in rw z
+pub returns-else-start-end : goal.returns-else-start-end
+returns-else-start-end c = part_empty c.args.file.now c.args.start c.args.end c.min-end.result c.min-end.ensures c.if-start-end.false

@@ -1,5 +1,4 @@
 use mathlib.Core.Path.{◌≡◌}
-use Prim.Native.Nat.{◌-◌, ◌≤◌}
 use lib.ListN.{get_or, replicate}
 use Rattle.laws.specs.Buffer.{front}
 use Rattle.load.specs.Serving.CellPlans.{cell_at}
@@ -7,7 +6,4 @@ use Rattle.load.proofs.cells.edge_cells.Given as goal
 
 abbrev pub invariant-loop-k : goal.invariant-loop-k
 invariant-loop-k l =
-    (l.k ≤ 6) × (l.cells ≡ front (λ k. cell_at l.order l.file (get_or l.letters k 0) (get_or l.columns k 0) l.places l.origin l.end) l.k (replicate 6 0))
-
-abbrev pub decreases-loop-k : goal.decreases-loop-k
-decreases-loop-k l = 6 - l.k
+    l.cells ≡ front (λ k. cell_at l.order l.file (get_or l.letters k 0) (get_or l.columns k 0) l.places l.origin l.end) l.k (replicate 6 0)

@@ -1,4 +1,4 @@
-use mathlib.Core.Path.{◌≡◌, refl, ap, ◌∙◌}
+use mathlib.Core.Path.{◌≡◌, ap, ◌∙◌}
 use Prim.Native.Nat.{ℕ, suc, pred, ◌-◌}
 use native.Mathlib.Omega.{arith}
 use lib.ListN.{get_or, replicate}
@@ -9,11 +9,8 @@ use Rattle.table.specs.Rows.{column_at}
 use Rattle.load.specs.Serving.CellPlans.{letters_of}
 use Rattle.load.proofs.cells.edge_letters.Goals as goal
 
-pub loop-k-init : goal.loop-k-init
-loop-k-init c = (omega arith, refl)
-
-pub overflow_sub-c : goal.overflow_sub-c
-overflow_sub-c c = omega (arith, (c.requires (suc c.loop-k.k) (omega arith) (omega arith)).0)
+pub overflow_sub-columns : goal.overflow_sub-columns
+overflow_sub-columns c = omega (arith, (c.requires (suc c.loop-k.k) (omega arith) (omega arith)).0)
 
 pub offset_bounds-layout-columns : goal.offset_bounds-layout-columns
 offset_bounds-layout-columns c = omega (arith, (c.requires (suc c.loop-k.k) (omega arith) (omega arith)).1)
@@ -28,14 +25,12 @@ bounds-layout-columns c =
 
 pub loop-k-preserved : goal.loop-k-preserved
 loop-k-preserved c =
-    let q : pred (get_or c.args.columns c.loop-k.k 0) ≡ get_or c.args.columns c.loop-k.k 0 - 1 = omega arith in (
-      omega arith,
-      front_next (λ k. letter_of (column_at c.args.layout (get_or c.args.columns k 0)).kind) c.loop-k.k _ c.loop-k.letters (replicate 6 0)
-          c.loop-k.invariant.1 (rw q c.letter.ensures) (omega arith),
-    )
+    let q : pred (get_or c.args.columns.now c.loop-k.k 0) ≡ get_or c.args.columns.now c.loop-k.k 0 - 1 = omega arith in
+    front_next (λ k. letter_of (column_at c.args.layout.now (get_or c.args.columns.now k 0)).kind) c.loop-k.k _ c.loop-k.letters (replicate 6 0)
+    c.loop-k.invariant (rw q c.letter.ensures) (omega arith)
 
 pub returns : goal.returns
 unfolding letters_of
 returns c =
-    let q : c.loop-k.k ≡ 6 = omega arith in
-    c.loop-k.invariant.1 ∙ ap (λ (n : ℕ). front (λ k. letter_of (column_at c.args.layout (get_or c.args.columns k 0)).kind) n (replicate 6 0)) q
+    let q : c.loop-k.k ≡ 6 = omega (arith, c.loop-k-test.false, c.loop-k.auto) in
+    c.loop-k.invariant ∙ ap (λ (n : ℕ). front (λ k. letter_of (column_at c.args.layout.now (get_or c.args.columns.now k 0)).kind) n (replicate 6 0)) q

@@ -1,5 +1,4 @@
 use mathlib.Core.Path.{◌≡◌}
-use Prim.Native.Nat.{◌-◌, ◌≤◌}
 use lib.ListN.{get_or, replicate}
 use Rattle.laws.specs.Buffer.{front}
 use Rattle.field.specs.Fields.{letter_of}
@@ -8,7 +7,4 @@ use Rattle.load.proofs.cells.edge_letters.Given as goal
 
 abbrev pub invariant-loop-k : goal.invariant-loop-k
 invariant-loop-k l =
-    (l.k ≤ 6) × (l.letters ≡ front (λ k. letter_of (column_at l.layout (get_or l.columns k 0)).kind) l.k (replicate 6 0))
-
-abbrev pub decreases-loop-k : goal.decreases-loop-k
-decreases-loop-k l = 6 - l.k
+    l.letters ≡ front (λ k. letter_of (column_at l.layout (get_or l.columns k 0)).kind) l.k (replicate 6 0)

@@ -1,5 +1,5 @@
 use mathlib.Core.Path.{◌≡◌}
-use Prim.Native.Nat.{suc, ◌-◌, ◌≤◌}
+use Prim.Native.Nat.{suc}
 use lib.ListN.{replicate}
 use Rattle.laws.specs.Buffer.{front}
 use Rattle.limits.specs.Limits.{most_columns}
@@ -7,7 +7,4 @@ use Rattle.table.specs.Rows.{column_at}
 use Rattle.load.proofs.cells.offsets_of.Given as goal
 
 abbrev pub invariant-loop-k : goal.invariant-loop-k
-invariant-loop-k l = (l.k ≤ most_columns) × (l.offsets ≡ front (λ k. (column_at l.layout (suc k)).offset) l.k (replicate most_columns 0))
-
-abbrev pub decreases-loop-k : goal.decreases-loop-k
-decreases-loop-k l = most_columns - l.k
+invariant-loop-k l = l.offsets ≡ front (λ k. (column_at l.layout (suc k)).offset) l.k (replicate most_columns 0)

@@ -1,11 +1,11 @@
-use borrow.Author.Tests.{eq-eqb, ne_eqb}
+use Rattle.std.proofs.Common.{eq-eqb, ne_eqb}
 use Rattle.load.specs.Serving.CellPlans.{origin_of, places_for}
 use Rattle.load.proofs.cells.walk_row.Goals as goal
 
-pub returns-then-width-eq0 : goal.returns-then-width-eq0
+pub returns-then-rows-eq0 : goal.returns-then-rows-eq0
 unfolding origin_of places_for
-returns-then-width-eq0 c =
-    let t = eq-eqb _ _ c.if-width-eq0.true in record {
+returns-then-rows-eq0 c =
+    let t = eq-eqb _ _ c.if-rows-eq0.true in record {
       value = rw t;
       places_after = rw t c.walk.ensures.places_after;
     }
@@ -13,7 +13,7 @@ returns-then-width-eq0 c =
 pub returns : goal.returns
 unfolding origin_of places_for
 returns c =
-    let t = ne_eqb _ _ c.if-width-eq0.false in record {
+    let t = ne_eqb _ _ c.if-rows-eq0.false in record {
       value = rw t;
       places_after = rw t;
     }

@@ -1,7 +1,7 @@
-use Rattle.load.proofs.FitLaws.{in_layout}
 use mathlib.Core.Path.{◌≡◌}
 use mathlib.Core.Bool.{cond}
 use Rattle.load.specs.Sources.{fitting}
+use Rattle.load.proofs.FitLaws.{in_layout, found_some}
 use Rattle.load.proofs.fitting.fit.Goals as goal
 use Rattle.load.proofs.fitting.fit.Goals.{After-type_fits}
 
@@ -10,11 +10,11 @@ unfolding fitting
 returns-then-no_such_column c = simp (c.if-no_such_column.true, ← c.no_such_column.ensures)
 
 pub column_kind-requires : goal.column_kind-requires
-column_kind-requires c = in_layout c.args.layout c.args.column _
+column_kind-requires c = in_layout c.args.layout.now c.args.column _
     c.no_such_column.ensures c.if-no_such_column.false
 
 -- a column that is there is taken where its type fits
-there : (c : After-type_fits) → fitting c.args.layout c.args.place c.args.column ≡ cond c.type_fits.result c.args.column 0
+there : (c : After-type_fits) → fitting c.args.layout.now c.args.place c.args.column ≡ cond c.type_fits.result c.args.column 0
 unfolding fitting
 there c =
     simp (
@@ -25,7 +25,9 @@ there c =
     )
 
 pub returns-then-type_fits : goal.returns-then-type_fits
-returns-then-type_fits c = rw (there (goal.at.returns-then-type_fits c).After-type_fits, c.if-type_fits.true)
+returns-then-type_fits c =
+    rw (there (goal.at.returns-then-type_fits c).After-type_fits, c.if-type_fits.true)
+    (found_some c.args.column (in_layout c.args.layout.now c.args.column _ c.no_such_column.ensures c.if-no_such_column.false).0)
 
 pub returns : goal.returns
 returns c = rw (there (goal.at.returns c).After-type_fits, c.if-type_fits.false)

@@ -1,59 +1,57 @@
 -- `tile::columns::judge_edges` meets its contract: four tests in order, of which the last counts.
-use mathlib.Core.Path.{ap, ◌∙◌}
-use Rattle.refusal.proofs.OrderLaws.{at_first, at_second, at_third, at_fourth, lowest_ends}
-use Rattle.refusal.specs.Order.{located}
-use Rattle.side.specs.Edges.{Edges, edges, side_count}
-use Rattle.tile.specs.Check.{edge_side_refusal}
+use Rattle.std.proofs.Common.{◌≡◌, ap, ◌∙◌, Err, arith}
+use Rattle.std.proofs.lemmas.Result.{err_from_is_err_and}
+use Rattle.laws.specs.Lowest.{lowest}
+use Rattle.refusal.specs.Order.{answered, located}
+use Rattle.tile.specs.Columns.{E}
+use Rattle.tile.specs.Check.{node_outside, face_outside, link_outside}
 use Rattle.tile.specs.Serving.Stages.{edge_tests}
-use Rattle.tile.proofs.OwnerLaws.{tally_zero}
+use Rattle.tile.proofs.AnswersInOrder.{at_found, refuses, passes, ends}
 use Rattle.tile.proofs.columns.judge_edges.Goals as goal
-use Rattle.tile.proofs.columns.judge_edges.Goals.{Start}
+use Rattle.tile.proofs.columns.judge_edges.Goals.{After-at_lowest, After-at_lowest-2, After-at_lowest-3}
 
--- the six columns, as they are at entry
-abbrev columns : Start → Edges
-columns c = edges c.args.start_node.now c.args.end_node.now c.args.right_face.now c.args.left_face.now
-    c.args.right_edge.now c.args.left_edge.now
+nodes : (c : After-at_lowest) → c.at_lowest.result ≡ answered (located 20 (lowest (node_outside c.args.tile.now) (E c.args.tile.now)))
+nodes c =
+    at_found 20 _ _ _ (λ e. omega (arith, e)) c.at_lowest.ensures
+    (rw (← (c.columns.view_is ∙ c.tile.view_is), ← c.edges.view_is) c.bad_row.ensures)
 
-pub returns-then-a-ne0 : goal.returns-then-a-ne0
+faces : (c : After-at_lowest-2) → c.at_lowest-2.result ≡ answered (located 21 (lowest (face_outside c.args.tile.now) (E c.args.tile.now)))
+faces c =
+    at_found 21 _ _ _ (λ e. omega (arith, e)) c.at_lowest-2.ensures
+    (rw (← (c.columns.view_is ∙ c.tile.view_is), ← c.edges.view_is) c.bad_row-2.ensures)
+
+links : (c : After-at_lowest-3) → c.at_lowest-3.result ≡ answered (located 22 (lowest (link_outside c.args.tile.now) (E c.args.tile.now)))
+links c =
+    at_found 22 _ _ _ (λ e. omega (arith, e)) c.at_lowest-3.ensures
+    (rw (← (c.columns.view_is ∙ c.tile.view_is), ← c.edges.view_is) c.bad_row-3.ensures)
+
+pub returns-in_err-at_lowest-clause-value : goal.returns-in_err-at_lowest-clause-value
 unfolding edge_tests
-returns-then-a-ne0 c = record {
-  value = at_first _ _ _ _ c.refuse_at-a.result
-      (c.refuse_at-a.ensures ∙ ap (located 20) c.bad_row.ensures) c.if-a-ne0.true;
-  marks_after = tally_zero (columns (goal.at.returns-then-a-ne0 c).Start) c.args.marks.now c.refuse_at-a.result c.if-a-ne0.true c.requires.marks_value;
-}
+returns-in_err-at_lowest-clause-value c =
+    let p = err_from_is_err_and c.from_residual.result c.from_residual.ensures.1 in
+    p.1 ∙ ap Err p.2 ∙ refuses _ _ _ _ (nodes (goal.at.returns-in_err-at_lowest-clause-value c).After-at_lowest) c.in_err-at_lowest.was
 
-pub returns-then-b-ne0 : goal.returns-then-b-ne0
+pub returns-in_err-at_lowest-2-clause-value : goal.returns-in_err-at_lowest-2-clause-value
 unfolding edge_tests
-returns-then-b-ne0 c = record {
-  value = at_second _ _ _ _ c.refuse_at-a.result
-      (c.refuse_at-a.ensures ∙ ap (located 20) c.bad_row.ensures) c.if-a-ne0.false
-      c.refuse_at-b.result (c.refuse_at-b.ensures
-      ∙ ap (located 21) c.bad_row-2.ensures) c.if-b-ne0.true;
-  marks_after = tally_zero (columns (goal.at.returns-then-b-ne0 c).Start) c.args.marks.now c.refuse_at-b.result c.if-b-ne0.true c.requires.marks_value;
-}
+returns-in_err-at_lowest-2-clause-value c =
+    let p = err_from_is_err_and c.from_residual-in_err-at_lowest-2.result c.from_residual-in_err-at_lowest-2.ensures.1 in
+    p.1 ∙ ap Err p.2
+    ∙ passes _ _ _ _ (nodes (goal.at.returns-in_err-at_lowest-2-clause-value c).After-at_lowest) c.in_ok-at_lowest.was
+    (refuses _ _ _ _ (faces (goal.at.returns-in_err-at_lowest-2-clause-value c).After-at_lowest-2) c.in_err-at_lowest-2.was)
 
-pub returns-then-c-ne0 : goal.returns-then-c-ne0
+pub returns-in_err-at_lowest-3-clause-value : goal.returns-in_err-at_lowest-3-clause-value
 unfolding edge_tests
-returns-then-c-ne0 c = record {
-  value = at_third _ _ _ _ c.refuse_at-a.result
-      (c.refuse_at-a.ensures ∙ ap (located 20) c.bad_row.ensures) c.if-a-ne0.false
-      c.refuse_at-b.result (c.refuse_at-b.ensures
-      ∙ ap (located 21) c.bad_row-2.ensures) c.if-b-ne0.false
-      c.refuse_at-c.result (c.refuse_at-c.ensures
-      ∙ ap (located 22) c.bad_row-3.ensures) c.if-c-ne0.true;
-  marks_after = tally_zero (columns (goal.at.returns-then-c-ne0 c).Start) c.args.marks.now c.refuse_at-c.result c.if-c-ne0.true c.requires.marks_value;
-}
+returns-in_err-at_lowest-3-clause-value c =
+    let p = err_from_is_err_and c.from_residual-in_err-at_lowest-3.result c.from_residual-in_err-at_lowest-3.ensures.1 in
+    p.1 ∙ ap Err p.2
+    ∙ passes _ _ _ _ (nodes (goal.at.returns-in_err-at_lowest-3-clause-value c).After-at_lowest) c.in_ok-at_lowest.was
+    (passes _ _ _ _ (faces (goal.at.returns-in_err-at_lowest-3-clause-value c).After-at_lowest-2) c.in_ok-at_lowest-2.was
+    (refuses _ _ _ _ (links (goal.at.returns-in_err-at_lowest-3-clause-value c).After-at_lowest-3) c.in_err-at_lowest-3.was))
 
-pub returns : goal.returns
+pub returns-clause-value : goal.returns-clause-value
 unfolding edge_tests
-returns c =
-    let t = columns (goal.at.returns c).Start in record {
-      value = at_fourth _ _ _ _ c.refuse_at-a.result
-          (c.refuse_at-a.ensures ∙ ap (located 20) c.bad_row.ensures) c.if-a-ne0.false
-          c.refuse_at-b.result (c.refuse_at-b.ensures
-          ∙ ap (located 21) c.bad_row-2.ensures) c.if-b-ne0.false
-          c.refuse_at-c.result (c.refuse_at-c.ensures
-          ∙ ap (located 22) c.bad_row-3.ensures) c.if-c-ne0.false
-          c.tally.result (c.tally.ensures.value ∙ lowest_ends (edge_side_refusal t) (side_count t));
-      marks_after = c.tally.ensures.marks_after;
-    }
+returns-clause-value c =
+    passes _ _ _ _ (nodes (goal.at.returns-clause-value c).After-at_lowest) c.in_ok-at_lowest.was
+    (passes _ _ _ _ (faces (goal.at.returns-clause-value c).After-at_lowest-2) c.in_ok-at_lowest-2.was
+    (passes _ _ _ _ (links (goal.at.returns-clause-value c).After-at_lowest-3) c.in_ok-at_lowest-3.was
+    (c.tally.ensures.value ∙ ends _)))

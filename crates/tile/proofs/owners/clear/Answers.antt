@@ -1,24 +1,22 @@
--- `tile::owners::clear` meets its contract. The loop's invariant: the marks passed are zero, the others as they were.
-use mathlib.Core.Path.{◌≡◌, refl}
-use native.Mathlib.Omega.{arith}
-use Prim.Native.Nat.{◌<◌, ◌-◌}
-use lib.ListN.{length, length-set}
-use Rattle.laws.proofs.BufferLaws.{front_next}
+-- `tile::owners::clear` meets its contract: what is filled is the front, and the others are as they were.
+use Rattle.std.proofs.Common.{◌≡◌, refl, sym, ap, ℕ, zero, suc, ◌-◌, ◌≤◌, List, [], ◌∷◌, ◌++◌, length, take, drop, replicate, length-take, arith}
+use Rattle.laws.specs.Buffer.{listed, front}
 use Rattle.laws.specs.Marks.{zeros}
 use Rattle.tile.proofs.owners.clear.Goals as goal
 
-pub loop-i-init : goal.loop-i-init
-loop-i-init c = (omega arith, refl, refl)
+one_more : (x n : ℕ) → replicate n x ++ (x ∷ []) ≡ x ∷ replicate n x
+one_more x zero = refl
+one_more x (suc n) = ap (λ (l : List ℕ). x ∷ l) (one_more x n)
 
-pub loop-i-preserved : goal.loop-i-preserved
-loop-i-preserved c =
-    let l : c.loop-i.i < length c.args.marks.now = omega arith in (
-      omega arith,
-      front_next zeros c.loop-i.i 0 c.loop-i.marks c.args.marks.now c.loop-i.invariant.1 refl l,
-      simp length-set c.loop-i.invariant.2,
-    )
+listed_zeros : (n : ℕ) → replicate n 0 ≡ listed zeros n
+listed_zeros zero = refl
+listed_zeros (suc n) = rw (← listed_zeros n) (sym (one_more 0 n))
+
+filled : (n : ℕ) (d m : List ℕ) → n ≤ length d → m ≡ replicate (length (take (n - 0) d)) 0 → m ++ drop (n - 0) d ≡ front zeros n d
+filled n d m h e =
+    let z : n - 0 ≡ n = omega arith in
+    let l : length (take (n - 0) d) ≡ n = simp length-take (omega arith) in
+    rw (e, l, z, listed_zeros n)
 
 pub returns : goal.returns
-returns c =
-    let q : c.loop-i.i ≡ c.args.n = omega arith in
-    rw q at c.loop-i.invariant.1
+returns c = filled c.args.n c.args.marks.now c.fill.new.self c.requires (c.fill.ensures.after (λ y e. e))

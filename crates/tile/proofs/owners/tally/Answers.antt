@@ -1,100 +1,61 @@
 -- `tile::owners::tally` meets its contract. The loop's invariant: none of the sides passed is refused, and the marks count, up to two, how
 -- often they lead to each side.
-use mathlib.Core.Path.{◌≡◌, refl, sym, ap, ◌∙◌}
-use native.Mathlib.Omega.{arith}
-use native.Mathlib.Numerals.{add-one}
-use Prim.Native.Nat.{◌+◌, ◌≤◌, ◌<◌, ◌-◌}
-use lib.ListN.{length-set}
+use Rattle.std.proofs.Common.{◌≡◌, refl, sym, ap, ◌∙◌, ◌+◌, ◌≤◌, ◌<◌, Ok, Err, add-one, arith}
 use Rattle.laws.proofs.LowestLaws.{none_start}
-use Rattle.laws.proofs.MarkLaws.{tally_turn}
-use Rattle.laws.specs.Marks.{count}
+use Rattle.laws.proofs.MarkLaws.{cleared, tally_turn}
 use Rattle.refusal.specs.declared.Refusal.{Refusal}
-use Rattle.refusal.specs.Order.{fine}
+use Rattle.refusal.specs.Order.{answered}
 use Rattle.refusal.proofs.OrderLaws.{on_next, found, all_fine}
-use Rattle.side.specs.Successor.{after}
-use Rattle.side.specs.Edges.{Edges, edges, side_count}
-use Rattle.side.proofs.SideLaws.{after-at_most}
+use Rattle.refusal.proofs.AnswerLaws.{answered-fine, answered-refused}
+use Rattle.side.specs.Successor.{successor, side_of, after}
+use Rattle.tile.specs.Columns.{sides}
 use Rattle.tile.specs.Check.{edge_side_refusal}
-use Rattle.tile.proofs.OwnerLaws.{tally_cleared, tally_whole}
-use Rattle.tile.proofs.SuccessorLaws.{side_fine, side_refused}
+use Rattle.tile.specs.Serving.Stages.{refused_at_side}
+use Rattle.tile.proofs.SuccessorLaws.{side_in, side_fine, side_refused, refused-number}
 use Rattle.tile.proofs.owners.tally.Goals as goal
-use Rattle.tile.proofs.owners.tally.Goals.{Else-u-eq0, Start}
-
--- the six columns, as they are at entry
-abbrev columns : Start → Edges
-columns c = edges c.args.start_node.now c.args.end_node.now c.args.right_face.now c.args.left_face.now
-    c.args.right_edge.now c.args.left_edge.now
-
--- the side that is counted is one of 1..2E
-inside : (c : Else-u-eq0) → (0 < c.side_after-u.result) × (c.side_after-u.result ≤ side_count ((edges c.args.start_node.now c.args.end_node.now c.args.right_face.now c.args.left_face.now
-    c.args.right_edge.now c.args.left_edge.now)))
-inside c =
-    let p : 0 < c.side_after-u.result = omega arith in (
-      p,
-      rw c.side_after-u.ensures (after-at_most ((edges c.args.start_node.now c.args.end_node.now c.args.right_face.now c.args.left_face.now
-          c.args.right_edge.now c.args.left_edge.now)) (c.loop-i.i + 1)),
-    )
+use Rattle.tile.proofs.owners.tally.Goals.{In-Ok}
 
 pub loop-i-init : goal.loop-i-init
-loop-i-init c =
-    (omega arith, refl, c.requires.marks_value, refl, none_start _)
+loop-i-init c = (cleared (sides c.args.tile.now) c.args.marks.now c.clear.new.marks (rw (← c.sides-n.ensures) c.clear.ensures), none_start _)
 
-pub clear-requires : goal.clear-requires
-clear-requires c =
-    omega (arith, c.loop-i.invariant, c.requires.start_node_in_bounds)
+-- the side that is counted
+follows : (c : In-Ok) → successor c.args.tile.now.edg (c.loop-i.i + 1) ≡ Ok c.in-Ok.u
+follows c = sym c.next_side.ensures ∙ c.in-Ok.is
 
-pub returns-then-u-eq0 : goal.returns-then-u-eq0
-returns-then-u-eq0 c =
-    let t = columns (goal.at.returns-then-u-eq0 c).Start in
-    let z : c.judge_side.result.number ≡ 0 → ⊥ = λ e. side_refused t (c.loop-i.i + 1) c.side_after-u.result
-    c.side_after-u.ensures
-    c.if-u-eq0.true (sym (ap (λ (r : Refusal). r.number) c.judge_side.ensures) ∙ e) in record {
-      value = found (edge_side_refusal t) (side_count t) c.loop-i.i c.judge_side.result c.loop-i-test.true
-          c.loop-i.invariant.4 c.judge_side.ensures z;
-      marks_after = tally_cleared t c.args.marks.now c.judge_side.result z (count (after t) c.loop-i.i) c.loop-i.marks c.clear.new.marks
-          c.loop-i.invariant.2 c.clear.ensures;
-    }
+-- and it is one of 1..2E
+inside : (c : In-Ok) → (0 < c.in-Ok.u) × (c.in-Ok.u ≤ sides c.args.tile.now)
+inside c = side_in c.args.tile.now.edg (c.loop-i.i + 1) c.in-Ok.u (follows c)
 
-pub overflow_sub-j : goal.overflow_sub-j
-overflow_sub-j c = (inside c).0
+pub overflow_sub-mark : goal.overflow_sub-mark
+overflow_sub-mark c = (inside (goal.at.overflow_sub-mark c).In-Ok).0
 
-pub offset_bounds-marks-j : goal.offset_bounds-marks-j
-offset_bounds-marks-j c = omega (arith, inside c)
+pub offset_bounds-marks-u : goal.offset_bounds-marks-u
+offset_bounds-marks-u c = omega (arith, inside (goal.at.offset_bounds-marks-u c).In-Ok, c.requires)
 
-pub bounds-marks-j : goal.bounds-marks-j
-bounds-marks-j c =
-    omega (arith, inside (goal.at.bounds-marks-j c).Else-u-eq0, c.requires.start_node_in_bounds, c.loop-i.invariant)
+pub bounds-marks-u : goal.bounds-marks-u
+bounds-marks-u c = omega (arith, inside (goal.at.bounds-marks-u c).In-Ok, c.requires, c.loop-i.auto.marks, c.clear.auto.marks)
 
-pub offset_bounds-marks-j-in-loop-i : goal.offset_bounds-marks-j-in-loop-i
-offset_bounds-marks-j-in-loop-i c = omega (arith, inside (goal.at.offset_bounds-marks-j-in-loop-i c).Else-u-eq0)
-
-pub bounds-marks-j-in-loop-i : goal.bounds-marks-j-in-loop-i
-bounds-marks-j-in-loop-i c =
-    omega (arith, inside (goal.at.bounds-marks-j-in-loop-i c).Else-u-eq0, c.requires.start_node_in_bounds, c.loop-i.invariant)
+pub returns-in-Err-clause-value : goal.returns-in-Err-clause-value
+returns-in-Err-clause-value c =
+    let t = c.args.tile.now.edg in
+    let e : successor t (c.loop-i.i + 1) ≡ Err c.in-Err.kind = sym c.next_side.ensures ∙ c.in-Err.is in
+    let z : c.at.result.number ≡ 0 → ⊥ = λ n. refused-number t (c.loop-i.i + 1) c.in-Err.kind e (sym (ap (λ (r : Refusal). r.number) c.at.ensures) ∙ n) in
+    sym (answered-refused c.at.result z)
+    ∙ ap answered (found (edge_side_refusal t) (sides c.args.tile.now) c.loop-i.i c.at.result (omega arith) c.loop-i.invariant.1
+    (c.at.ensures ∙ sym (side_refused t (c.loop-i.i + 1) c.in-Err.kind e)) z)
 
 pub loop-i-preserved : goal.loop-i-preserved
 loop-i-preserved c =
-    let t = columns (goal.at.loop-i-preserved c).Start in (
-      omega arith,
-      refl,
-      tally_turn (after t) (side_count t) c.args.marks.now c.loop-i.marks c.requires.start_node_in_bounds
-          c.loop-i.i c.side_after-u.result
-          c.one_more.result (inside (goal.at.loop-i-preserved c).Else-u-eq0).0 (inside (goal.at.loop-i-preserved c).Else-u-eq0).1 c.loop-i.invariant.2
-          (c.side_after-u.ensures
-          ∙ ap (after t) (add-one c.loop-i.i)) c.one_more.ensures,
-      simp length-set c.loop-i.invariant.3,
-      on_next (edge_side_refusal t) c.loop-i.i fine
-          c.loop-i.invariant.4 (side_fine t (c.loop-i.i + 1)
-          c.side_after-u.result c.side_after-u.ensures
-          c.if-u-eq0.false) refl,
+    let t = c.args.tile.now.edg in
+    let k = (goal.at.loop-i-preserved c).In-Ok in (
+      tally_turn (after t) (sides c.args.tile.now) c.clear.new.marks c.loop-i.marks (omega (arith, c.requires, c.clear.auto.marks))
+          c.loop-i.i c.in-Ok.u c.one_more.result (inside k).0 (inside k).1 c.loop-i.invariant.0
+          (sym (ap side_of (follows k)) ∙ ap (after t) (add-one c.loop-i.i)) c.one_more.ensures,
+      on_next (edge_side_refusal t) c.loop-i.i _ c.loop-i.invariant.1 refl (side_fine t (c.loop-i.i + 1) c.in-Ok.u (follows k)),
     )
 
-pub returns : goal.returns
-returns c =
-    let t = columns (goal.at.returns c).Start in
-    let q : c.loop-i.i ≡ side_count t = omega arith in record {
-      value = c.no_refusal.ensures ∙ all_fine (edge_side_refusal t) (side_count t) c.loop-i.i c.loop-i-test.false
-          c.loop-i.invariant.0 c.loop-i.invariant.4;
-      marks_after = tally_whole t c.args.marks.now c.no_refusal.result (ap (λ (r : Refusal). r.number) c.no_refusal.ensures)
-          c.loop-i.marks (rw q at c.loop-i.invariant.2);
-    }
+pub returns-clause-value : goal.returns-clause-value
+returns-clause-value c =
+    let t = c.args.tile.now.edg in
+    sym (answered-fine (refused_at_side t) (ap (λ (r : Refusal). r.number) (sym (all_fine (edge_side_refusal t) (sides c.args.tile.now) c.loop-i.i
+    (omega arith) (omega arith) c.loop-i.invariant.1))))

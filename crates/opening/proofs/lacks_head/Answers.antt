@@ -1,8 +1,0 @@
-use borrow.Author.Tests.{eq-eqb, ne_eqb}
-use Rattle.opening.proofs.lacks_head.Goals as goal
-
-pub returns-then-layout-eq0 : goal.returns-then-layout-eq0
-returns-then-layout-eq0 c = simp (eq-eqb _ _ c.if-layout-eq0.true)
-
-pub returns : goal.returns
-returns c = simp (ne_eqb _ _ c.if-layout-eq0.false)

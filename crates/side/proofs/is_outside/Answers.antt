@@ -1,9 +1,0 @@
--- `side::is_outside` meets its contract: each answer is the branch of the definition with the tests that led to it.
-use borrow.Author.Tests.{eq-eqb, ne_eqb}
-use Rattle.side.proofs.is_outside.Goals as goal
-
-pub returns-then-x-eq0 : goal.returns-then-x-eq0
-returns-then-x-eq0 c = simp (eq-eqb _ _ c.if-x-eq0.true)
-
-pub returns : goal.returns
-returns c = simp (ne_eqb _ _ c.if-x-eq0.false)
