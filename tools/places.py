@@ -82,7 +82,8 @@ SHAPED = {"Unlisted", "Nothing", "Refused", "NotFinite", "Stop", "Bad", "BadByte
 HAND = (r"(?:plain_\w+|no_column|no_value|refused_\w+|one_if|order_for|ids_for|table_number|lesser\w*|larger|greater\w*|same_text|same_name|lower_of|"
         r"signed_\w+|is_printable|is_letter|is_plain|is_digit|digit_of|natural_of|of_table|of_index|of_node_index|name_of|kind_of|key_listed|"
         r"either_varies|width_of|body_size|most_taken|bytes_from|part|front\w*|lent\w*|bytes_between|row_from|say_\w+|put_number|put_text|put_byte|"
-        r"is_integer|is_triplet|has_coordinates|extent_of|refusal_of|find_answer|wide|entry|number_at|columns_within|no_such|one_more|join\d|split\d|put\d|lacks_comma|ends_columns|is_star|columns_after|finish_at|in_range|"
+        r"is_integer|is_triplet|has_coordinates|extent_of|refusal_of|find_answer|wide|entry|number_at|columns_within|no_such|one_more|join\d|"
+        r"split\d|put\d|lacks_comma|ends_columns|is_star|columns_after|finish_at|in_range|"
         r"short_found|double_found|short_value|integer_value|float_value|double_value|triplet_value|clear|find)")
 
 

@@ -5,10 +5,11 @@ use mathlib.Core.List.{List}
 use Prim.Native.Nat.{ℕ, ◌+◌, ◌-◌, ◌≤◌}
 use native.Mathlib.Omega.{arith}
 use native.Mathlib.Nat.{sub-zero, min-eq_left}
-use borrow.Author.Tests.{eq-eqb, ne_eqb}
+use borrow.Author.Tests.{eq-eqb, ne_eqb, eqb-true, eqb-false}
 use lib.Dec.{eqb}
 use lib.ListN.{length, take, length-take}
-use Rattle.std.specs.Prelude.{Ok, Err}
+use Rattle.std.specs.Prelude.{Result, Ok, Err}
+use Rattle.laws.proofs.LowestLaws.{bool_cases}
 use Rattle.refusal.specs.declared.Refusal.{Refusal}
 use Rattle.header.specs.declared.Header.{Header}
 use Rattle.header.specs.declared.Judged.{Judged}
@@ -36,13 +37,23 @@ pub given_header : (file : List ℕ) (head : Header) → header_of file ≡ Ok h
 unfolding header_of
 given_header file head e = given (header_refusal file) _ head e
 
+-- a refused header gives no column
+refused_among : (file name : List ℕ) → ((header_refusal file).number ≡ 0 → ⊥) → 0 ≡ column_of file name
+unfolding column_of
+refused_among file name h = rw (ne_eqb (header_refusal file).number 0 h)
+
+-- the column of a name among the names that a header gave on; 0 where it is refused, and none are given
+abbrev pub among_given : List ℕ → List ℕ → Result Header Refusal → ℕ
+among_given file name (Ok head) = column_among file head.names head.layout.columns name
+among_given file name (Err q) = 0
+
 -- THE COLUMN OF A NAME, found among the names that the header gives on: what `find_column` gives, and no header is judged for it
-pub among_names : (file name : List ℕ) (head : Header) → header_of file ≡ Ok head
-    → column_among file head.names head.layout.columns name ≡ column_of file name
-unfolding layout_of
-among_names file name head e =
-    let g = given_header file head e in
-    ap (λ (x : Header). column_among file x.names x.layout.columns name) g.1 ∙ accepted_among file name g.0
+pub among_names : (file name : List ℕ) → among_given file name (header_of file) ≡ column_of file name
+unfolding header_of layout_of
+among_names file name =
+    bool_cases (eqb (header_refusal file).number 0)
+    (λ t. rw t (accepted_among file name (eqb-true (header_refusal file).number 0 t)))
+    (λ t. rw t (refused_among file name (eqb-false (header_refusal file).number 0 t)))
 
 module _ (file : List ℕ) (f : Judged) (p : Passed file f) where
   -- the head, as the code lends it

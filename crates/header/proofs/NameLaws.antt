@@ -1,16 +1,16 @@
--- Two texts compared case ignored, and names found by where they lie.
-use Rattle.std.specs.Prelude.{IsTrue, map, ◌↔◌}
-use Rattle.std.specs.Char.{to_ascii_lowercase}
+-- Two texts compared byte by byte, case ignored: one turn of the loop; and names found by where they lie.
 use mathlib.Core.Path.{◌≡◌, refl, sym, ap, ◌∙◌}
-use mathlib.Core.Bool.{Bool, true, false, false≢true}
+use mathlib.Core.Bool.{Bool, true, false, ◌&&◌}
 use mathlib.Core.List.{List, [], ◌∷◌}
-use Prim.Native.Nat.{ℕ, zero, suc, min, ◌-◌, ◌≤◌, ◌<◌}
+use Prim.Native.Nat.{ℕ, zero, suc, min, ◌+◌, ◌-◌, ◌≤◌, ◌<◌}
 use native.Mathlib.Omega.{arith}
-use borrow.Author.Tests.{lt-ltb}
-use lib.ListN.{length, get_or, take, drop, replicate}
-use lib.Seq.{take-take}
+use native.Mathlib.Numerals.{add-one}
+use borrow.Author.Tests.{eq-eqb, ne_eqb, lt-ltb}
+use lib.Dec.{eqb}
+use lib.ListN.{length, get_or, take, drop, replicate, drop_of_length-le}
+use lib.Seq.{drop-cons, take-take}
 use Rattle.laws.specs.Lowest.{lowest, None}
-use Rattle.laws.proofs.LowestLaws.{bool_cases, lowest_found, lowest_nothing, lowest_ext}
+use Rattle.laws.proofs.LowestLaws.{lowest_found, lowest_nothing, lowest_ext}
 use Rattle.laws.proofs.BufferLaws.{get_or-one_to}
 use Rattle.laws.proofs.PlaceLaws.{drop-take, part_cut}
 use mathlib.Core.Logic.{by_cases}
@@ -21,35 +21,35 @@ use Rattle.header.specs.declared.Span.{Span}
 use Rattle.header.specs.declared.Names.{Names}
 use Rattle.header.specs.Places.{part, place_after, column}
 use Rattle.header.specs.Names.{lower, same_text, name_of, same_name, named_before, is_named, column_named, span_of, no_span, names_of, part_at, name_among, is_among}
-use Rattle.header.proofs.ColumnsJudged.{same_text_exactly}
 use Rattle.header.proofs.PlaceLaws.{name_within, name-start}
 
--- "case ignored", as std says it
-small : (b : ℕ) → to_ascii_lowercase b ≡ lower b
-unfolding lower
-small b = grind arith
+-- texts of two lengths differ
+pub same_length : (a b : List ℕ) → (length a ≡ length b → ⊥) → false ≡ same_text a b
+same_length [] [] h = absurd (h refl)
+same_length [] (y ∷ l) h = refl
+same_length (x ∷ k) [] h = refl
+same_length (x ∷ k) (y ∷ l) h = either (eqb (lower x) (lower y)) (same_length k l (λ e. h (ap suc e)))
+  where
+    either : (t : Bool) → {u : Bool} → false ≡ u → false ≡ (t && u)
+    either true e = e
+    either false e = refl
 
-smalls : (a : List ℕ) → map to_ascii_lowercase a ≡ map lower a
-smalls [] = refl
-smalls (x ∷ a) = λ i. small x i ∷ smalls a i
+module _ (a b : List ℕ) (i : ℕ) (h : i < length a) (l : length a ≡ length b) where
+  pub same_next : lower (get_or a i 0) ≡ lower (get_or b i 0) → same_text (drop (i + 1) a) (drop (i + 1) b) ≡ same_text (drop i a) (drop i b)
+  same_next e = rw (drop-cons a i 0 h, drop-cons b i 0 (omega arith), eq-eqb (lower (get_or a i 0)) (lower (get_or b i 0)) e, add-one i)
 
--- what a comparison that ignores case says of two texts
-abbrev pub Said : List ℕ → List ℕ → Bool → Type 0
-Said a b r = IsTrue r ↔ (map to_ascii_lowercase a ≡ map to_ascii_lowercase b)
+  pub same_stop : (lower (get_or a i 0) ≡ lower (get_or b i 0) → ⊥) → false ≡ same_text (drop i a) (drop i b)
+  same_stop e = rw (drop-cons a i 0 h, drop-cons b i 0 (omega arith), ne_eqb (lower (get_or a i 0)) (lower (get_or b i 0)) e)
 
-same_said : (a b : List ℕ) (r : Bool) → Said a b r → r ≡ same_text a b
-same_said a b true h = sym ((same_text_exactly a b).1 (sym (smalls a) ∙ h.0 refl ∙ smalls b))
-same_said a b false h =
-    bool_cases (same_text a b)
-    (λ t. absurd (false≢true (h.1 (smalls a ∙ (same_text_exactly a b).0 t ∙ sym (smalls b)))))
-    (λ t. sym t)
+pub same_end : (a b : List ℕ) (i : ℕ) → length a ≤ i → length a ≡ length b → true ≡ same_text (drop i a) (drop i b)
+same_end a b i h l = let k : length b ≤ i = omega arith in rw (drop_of_length-le a h, drop_of_length-le b k)
 
 -- ---- names by where they lie
 -- of a part that is the name of column k + 1
 pub among_said : (file : List ℕ) (names : Names) (name : List ℕ) (k : ℕ) (piece : List ℕ) → piece ≡ name_among file names (suc k)
-    → (r : Bool) → Said piece name r → is_among file names name (suc k) ≡ r
+    → (r : Bool) → r ≡ same_text piece name → is_among file names name (suc k) ≡ r
 unfolding is_among
-among_said file names name k piece p r t = sym (same_said piece name r t ∙ ap (λ (x : List ℕ). same_text x name) p)
+among_said file names name k piece p r t = sym (t ∙ ap (λ (x : List ℕ). same_text x name) p)
 
 -- a part is cut where the file ends
 module _ (file : List ℕ) (start end m : ℕ) (h : m ≡ min end (length file)) where
@@ -101,9 +101,9 @@ module _ (s : List ℕ) (n : ℕ) (names : Names) (e : names ≡ names_of s n) w
   name-at i h = (λ t. name_among s (e t) (suc i)) ∙ among_at s n i h s
 
   pub pair_said : (i j : ℕ) (a b : List ℕ) (r : Bool) → i < n → j < n
-      → a ≡ name_among s names (suc i) → b ≡ name_among s names (suc j) → Said a b r → names_as s j (suc i) ≡ r
+      → a ≡ name_among s names (suc i) → b ≡ name_among s names (suc j) → r ≡ same_text a b → names_as s j (suc i) ≡ r
   unfolding same_name
-  pair_said i j a b r h l p q t = sym (same_said a b r t ∙ (λ u. same_text ((p ∙ name-at i h) u) ((q ∙ name-at j l) u)))
+  pair_said i j a b r h l p q t = sym (t ∙ (λ u. same_text ((p ∙ name-at i h) u) ((q ∙ name-at j l) u)))
 
 module _ (s : List ℕ) (earlier later : ℕ) (h : None (names_as s later) earlier) where
   pub no_earlier : earlier ≡ later → named_before s (suc later) ≡ false

@@ -1,5 +1,5 @@
 -- "Table order: 1, 2, 1, 15, 3 over the whole text, 4 by column, 5, 6": the tests of a header, and the answer.
-use Rattle.std.specs.Prelude.{Bool, true, false, cond, not, ◌&&◌, ◌||◌, List, [], ◌∷◌, ℕ, ◌+◌, eqb, ltb, length, get_or, take, drop, Option, Some, None, Result, Ok, Err}
+use Rattle.std.specs.Prelude.{Bool, true, false, cond, not, ◌&&◌, ◌||◌, List, [], ◌∷◌, ℕ, ◌+◌, eqb, ltb, length, get_or, take, drop, Option, Some, None, Ok, Err}
 use Rattle.laws.specs.Lowest.{lowest}
 use Rattle.laws.specs.Texts.{bytes}
 use Rattle.refusal.specs.declared.Refusal.{Refusal}

@@ -125,8 +125,10 @@ pub fn fixed_bytes(column: ColumnLayout) -> u32
 pub fn read_header(file: &[u8]) -> Result<Header, Refusal>
     ensures { result ≡ header_of file.now }
 {
-    let accepted = judge::judge_file(file)?;
-    Ok(accepted.header)
+    match judge::judge_file(file) {
+        Ok(accepted) => Ok(accepted.header),
+        Err(refusal) => Err(refusal),
+    }
 }
 
 // One step of a reader that stands at the place: a column, the end after the last, or a refusal.

@@ -28,9 +28,12 @@ fn say_count(out: &mut impl Write, star: bool, count: u32) -> io::Result<()> {
 // A definition as the text has it, and the place after it.
 fn say_definition(out: &mut impl Write, file: &[u8], d: Definition) -> io::Result<()> {
     say_span(out, file, d.name)?;
-    say(out, &[b'=', d.kind, b','])?;
+    say(out, b"=")?;
+    say(out, &[d.kind])?;
+    say(out, b",")?;
     say_count(out, d.star, d.count)?;
-    say(out, &[b',', d.key])?;
+    say(out, b",")?;
+    say(out, &[d.key])?;
     for part in [d.description, d.value, d.thematic, d.narrative] {
         say(out, b",")?;
         say_span(out, file, part)?;
@@ -63,7 +66,9 @@ fn say_step(out: &mut impl Write, file: &[u8], place: usize) -> io::Result<usize
 // What a row needs of a column.
 fn say_column(out: &mut impl Write, c: ColumnLayout) -> io::Result<()> {
     let kind = c.kind;
-    say(out, &[b' ', b' ', kind.letter(), b','])?;
+    say(out, b"  ")?;
+    say(out, &[kind.letter()])?;
+    say(out, b",")?;
     say_count(out, c.star, c.count as u32)?;
     writeln!(out, " bytes {} after {}", header::fixed_bytes(c), c.offset)
 }

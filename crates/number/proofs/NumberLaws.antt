@@ -8,11 +8,12 @@ use native.Mathlib.Nat.{one-mul, mul-add, mul_assoc, mul_comm, div-div-eq-div-mu
 use native.Mathlib.Decide.{dec_lt, dec_le}
 use borrow.Author.Tests.{le-leb, lt-leb}
 use lib.ListN.{length-reverse, replicate, length, get_or, take, drop, length-append, length-drop, length-take, take-append-drop, get_or-eq_default}
-use lib.Seq.{take-suc, take_all, sets, length-sets, take-append-le, drop-append-le, take_at, drop_at, drop-drop, get_or-drop, get_or-take, length-take-le}
+use lib.Seq.{take-suc, take_all, sets, length-sets, take-append-le, drop-append-le, take_at, drop_at, drop-drop, get_or-drop, get_or-take, length-take-le, take-take}
 use mir.Syntax.{Width}
 use Rattle.std.specs.Int.{byte_at, byte_len, byte_worth, bytes_low_first, sum_through, from_le_bytes, from_be_bytes, to_le_bytes}
 use borrow.Rule.Slice.PartMut.{put_mid}
 use Rattle.laws.proofs.LentLaws.{stored_run, sets_other}
+use Rattle.laws.proofs.PlaceLaws.{drop-take}
 use Rattle.number.specs.Bytes.{least_first, digits, in_order, value, bytes_of, number, written, AreBytes}
 use Rattle.number.specs.declared.Order.{Order}
 use Rattle.number.specs.declared.Order.TheVariants.{Least, Most}
@@ -136,14 +137,13 @@ write_by o s at w v h =
     ∙ sym (written_inside o s at w v h)
 
 -- the same of bytes that are known to be the digits, put in the place of a part of s
-pub written_as : (o : Order) (s : List ℕ) (at w v : ℕ) {l : List ℕ} → l ≡ digits w v → at + w ≤ length s
-    → put_mid at (at + w - at) s (in_order o l) ≡ written o s at w v
-unfolding bytes_of
+pub written_as : (o : Order) (s : List ℕ) (at w v : ℕ) {l : List ℕ} → l ≡ bytes_of o w v → at + w ≤ length s
+    → put_mid at (at + w - at) s l ≡ written o s at w v
 written_as o s at w v {l} e h =
     let k : at + w - at ≡ w = omega arith in
-    ap (λ (n : ℕ). take at s ++ (in_order o l ++ drop n (drop at s))) k
-    ∙ ap (λ (m : List ℕ). take at s ++ (in_order o m ++ drop w (drop at s))) e
-    ∙ ap (λ (m : List ℕ). take at s ++ (in_order o (digits w v) ++ m)) (drop-drop w at s)
+    ap (λ (n : ℕ). take at s ++ (l ++ drop n (drop at s))) k
+    ∙ ap (λ (m : List ℕ). take at s ++ (m ++ drop w (drop at s))) e
+    ∙ ap (λ (m : List ℕ). take at s ++ (bytes_of o w v ++ m)) (drop-drop w at s)
     ∙ sym (written_inside o s at w v h)
 
 -- a part of bytes is bytes
@@ -279,14 +279,28 @@ low_first (suc k) i v = rw (byte i v, low_first k (suc i) v, div-div-eq-div-mul 
 pub to_digits : (w : Width) (v : ℕ) → to_le_bytes w v ≡ digits (byte_len w) v
 to_digits w v = low_first (byte_len w) 0 v ∙ ap (digits (byte_len w)) (omega arith)
 
--- what the bytes at a place say, from the rest of s as std gives it
-pub number_rest : (o : Order) (s : List ℕ) (at w : ℕ) {rest : List ℕ} → at ≤ length s → rest ≡ take (length s - at) (drop at s)
-    → w ≤ length rest → least_first (in_order o (take w rest)) ≡ number o s at w
+-- what the bytes at a place say, from that part of s as std gives it
+pub number_part : (o : Order) (s : List ℕ) (at w : ℕ) {part : List ℕ} → at + w ≤ length s → part ≡ take (at + w - at) (drop at s)
+    → least_first (in_order o (take w part)) ≡ number o s at w
 unfolding value
-number_rest o s at w p e h =
-    let d : length (drop at s) ≡ length s - at = length-drop at s in
-    let r = e ∙ take_all (length s - at) (drop at s) (omega (arith, d)) in
-    ap (λ (l : List ℕ). least_first (in_order o (take w l))) r ∙ sym (number_inside o s at w (omega (arith, h, ap length r, d)))
+number_part o s at w h e =
+    let k : at + w - at ≡ w = omega arith in
+    ap (λ (l : List ℕ). least_first (in_order o (take w l))) (e ∙ ap (λ (n : ℕ). take n (drop at s)) k)
+    ∙ ap (λ (l : List ℕ). least_first (in_order o l)) (take-take w w (drop at s) (omega arith))
+    ∙ sym (number_inside o s at w h)
+
+-- a number inside the m bytes at a place is the one that stands so much further on
+pub number_within : (o : Order) (s : List ℕ) (at m k w : ℕ) → at + m ≤ length s → k + w ≤ m
+    → number o (take m (drop at s)) k w ≡ number o s (at + k) w
+unfolding value
+number_within o s at m k w h l =
+    let d = length-drop at s in
+    let n = length-take-le m (drop at s) (omega (arith, d)) in
+    number_inside o (take m (drop at s)) k w (omega (arith, n))
+    ∙ ap (λ (x : List ℕ). least_first (in_order o (take w x))) (drop-take k m (drop at s))
+    ∙ ap (λ (x : List ℕ). least_first (in_order o x)) (take-take w (m - k) (drop k (drop at s)) (omega arith))
+    ∙ ap (λ (x : List ℕ). least_first (in_order o (take w x))) (drop-drop k at s)
+    ∙ sym (number_inside o s (at + k) w (omega arith))
 
 pub from_most : (w : Width) (l : List ℕ) → 0 < byte_len w → length l ≡ byte_len w → from_be_bytes w l ≡ least_first (reverse l)
 from_most w l p e =

@@ -2,7 +2,7 @@
 // inside the slice reads as 0, and writing one there changes nothing.
 #![tactic(auto)]
 
-ghost use Rattle.std.specs.Prelude.{◌≡◌, ℕ};
+ghost use Rattle.std.specs.Prelude.{◌≡◌, ◌<◌, ℕ, reverse};
 ghost use Rattle.number.specs.declared.Order.{Order};
 ghost use Rattle.number.specs.Bytes.{order_of, in_order, least_first, digits, number, written};
 
@@ -43,15 +43,14 @@ impl Unsigned for u8 {
     ghost as_number = { λ n. n };
 
     fn read_at(s: &[u8], at: usize, order: Order) -> u8 {
-        let bytes = bytes_at(s, at);
         match order {
-            Order::Least => u8::from_le_bytes(bytes),
-            Order::Most => u8::from_be_bytes(bytes),
+            Order::Least => u8::from_le_bytes(bytes_at(s, at)),
+            Order::Most => u8::from_be_bytes(bytes_at(s, at)),
         }
     }
 
     fn write_at(self, s: &mut [u8], at: usize, order: Order) {
-        put_bytes(s, at, self.to_le_bytes(), order);
+        put_bytes(s, at, self.to_le_bytes(), self.to_be_bytes(), order);
     }
 }
 
@@ -61,15 +60,14 @@ impl Unsigned for u16 {
     ghost as_number = { λ n. n };
 
     fn read_at(s: &[u8], at: usize, order: Order) -> u16 {
-        let bytes = bytes_at(s, at);
         match order {
-            Order::Least => u16::from_le_bytes(bytes),
-            Order::Most => u16::from_be_bytes(bytes),
+            Order::Least => u16::from_le_bytes(bytes_at(s, at)),
+            Order::Most => u16::from_be_bytes(bytes_at(s, at)),
         }
     }
 
     fn write_at(self, s: &mut [u8], at: usize, order: Order) {
-        put_bytes(s, at, self.to_le_bytes(), order);
+        put_bytes(s, at, self.to_le_bytes(), self.to_be_bytes(), order);
     }
 }
 
@@ -79,15 +77,14 @@ impl Unsigned for u32 {
     ghost as_number = { λ n. n };
 
     fn read_at(s: &[u8], at: usize, order: Order) -> u32 {
-        let bytes = bytes_at(s, at);
         match order {
-            Order::Least => u32::from_le_bytes(bytes),
-            Order::Most => u32::from_be_bytes(bytes),
+            Order::Least => u32::from_le_bytes(bytes_at(s, at)),
+            Order::Most => u32::from_be_bytes(bytes_at(s, at)),
         }
     }
 
     fn write_at(self, s: &mut [u8], at: usize, order: Order) {
-        put_bytes(s, at, self.to_le_bytes(), order);
+        put_bytes(s, at, self.to_le_bytes(), self.to_be_bytes(), order);
     }
 }
 
@@ -97,49 +94,46 @@ impl Unsigned for u64 {
     ghost as_number = { λ n. n };
 
     fn read_at(s: &[u8], at: usize, order: Order) -> u64 {
-        let bytes = bytes_at(s, at);
         match order {
-            Order::Least => u64::from_le_bytes(bytes),
-            Order::Most => u64::from_be_bytes(bytes),
+            Order::Least => u64::from_le_bytes(bytes_at(s, at)),
+            Order::Most => u64::from_be_bytes(bytes_at(s, at)),
         }
     }
 
     fn write_at(self, s: &mut [u8], at: usize, order: Order) {
-        put_bytes(s, at, self.to_le_bytes(), order);
+        put_bytes(s, at, self.to_le_bytes(), self.to_be_bytes(), order);
     }
 }
 
 // The N bytes at a place; zeros where they do not lie wholly inside. What they say is taken by the caller, in one step for
-// each order: to put them in order first, byte by byte, makes reading up to four times as slow.
+// each order: to put them in order first, byte by byte, makes reading up to four times as slow. They are taken
+// anew under each order, so that the compiler may make a loop over many numbers once for each order, and need not look at it in each turn.
 fn bytes_at<const N: usize>(s: &[u8], at: usize) -> [u8; N]
+    requires { 0 < N }
     ensures { (o : Order) → least_first (in_order o result) ≡ number o s.now at N }
 {
-    let Some(rest) = s.get(at..) else {
+    if s.len().saturating_sub(at) < N {
         return [0; N];
-    };
-    let Some(bytes) = rest.first_chunk::<N>() else {
-        return [0; N];
-    };
-    *bytes
+    }
+    match s[at..at + N].first_chunk::<N>() {
+        Some(bytes) => *bytes,
+        None => [0; N],
+    }
 }
 
-// Bytes least significant first as the order has them, and back.
-fn in_order<const N: usize>(mut bytes: [u8; N], order: Order) -> [u8; N]
-    ensures { result ≡ in_order order bytes.entry }
+// Writes N bytes at a place, given the least and given the most significant first; nothing where they do not lie wholly inside.
+fn put_bytes<const N: usize>(s: &mut [u8], at: usize, least: [u8; N], most: [u8; N], order: Order)
+    requires { 0 < N }
+    ensures { (v : ℕ) → least.entry ≡ digits N v → most.entry ≡ reverse (digits N v) → s.new ≡ written order s.old at N v }
 {
-    if order == Order::Most {
-        bytes.reverse();
+    if s.len().saturating_sub(at) < N {
+        return;
     }
-    bytes
-}
-
-// Writes N bytes at a place, given the least significant first; nothing where they do not lie wholly inside.
-fn put_bytes<const N: usize>(s: &mut [u8], at: usize, bytes: [u8; N], order: Order)
-    ensures { (v : ℕ) → bytes.entry ≡ digits N v → s.new ≡ written order s.old at N v }
-{
-    if at <= s.len() && N <= s.len() - at {
-        s[at..at + N].copy_from_slice(&in_order(bytes, order));
-    }
+    let bytes = match order {
+        Order::Least => least,
+        Order::Most => most,
+    };
+    s[at..at + N].copy_from_slice(&bytes);
 }
 
 // The number of the type's bytes at a place; 0 where it does not lie wholly inside.

@@ -1,13 +1,14 @@
 -- The laws of index entries, and of an opening that goes on after the header.
 use mathlib.Core.Path.{◌≡◌, refl, sym, ap, ◌∙◌}
-use mathlib.Core.Bool.{Bool, true, false, cond, not}
+use mathlib.Core.Bool.{Bool, true, false, cond, not, true≢false}
 use mathlib.Core.List.{List, [], ◌∷◌}
 use Prim.Native.Nat.{ℕ, zero, suc, min, ◌+◌, ◌-◌, ◌*◌, ◌/◌, ◌%◌, ◌≤◌, ◌<◌}
 use native.Mathlib.Omega.{arith}
 use native.Mathlib.Numerals.{add-one}
+use native.Mathlib.Nat.{add-zero}
 use lib.Dec.{eqb, ltb}
-use lib.ListN.{length}
-use borrow.Author.Tests.{eq-eqb, ne_eqb, lt-ltb, le-ltb}
+use lib.ListN.{length, take, drop}
+use borrow.Author.Tests.{eq-eqb, eqb-true, ne_eqb, lt-ltb, le-ltb}
 use Rattle.laws.proofs.LowestLaws.{bool_cases}
 use Rattle.laws.proofs.TestLaws.{clash}
 use Rattle.refusal.specs.declared.Refusal.{Refusal}
@@ -16,7 +17,7 @@ use Rattle.refusal.specs.Order.{Answer, refusal, fine, answered, refused_at, ref
 use Rattle.refusal.proofs.OrderLaws.{first_passes, first-refuses, both, first_within, goes_on, located-zero, located-at, located_passes}
 use Rattle.number.specs.declared.Order.{Order}
 use Rattle.number.specs.Bytes.{number}
-use Rattle.number.proofs.NumberLaws.{number_outside}
+use Rattle.number.proofs.NumberLaws.{number_outside, number_within}
 use Rattle.header.specs.declared.Layout.{Layout}
 use Rattle.std.specs.Prelude.{Ok, Err, Option}
 use Rattle.header.specs.declared.Header.{Header}
@@ -27,11 +28,11 @@ use Rattle.header.proofs.AcceptedExactly.{accepted_number}
 use Rattle.header.proofs.RefusedExactly.{refused-number}
 use Rattle.header.specs.Names.{column_among}
 use Rattle.header.specs.Steps.{column_of}
-use Rattle.header.proofs.HeaderLaws.{among_names, given_header}
+use Rattle.header.proofs.HeaderLaws.{among_given, among_names, given_header}
 use Rattle.refusal.proofs.AnswerLaws.{ok-fine, err-is, err-refuses}
 use Rattle.opening.specs.declared.Opened.{Opened}
 use Rattle.limits.specs.Limits.{most_rows}
-use Rattle.opening.specs.Opening.{needs_index, entries_said, offset_at, length_at, entry_end, end_at, entry_wrong, head_wrong, index_refusal}
+use Rattle.opening.specs.Opening.{needs_index, entries_said, offset_at, length_at, entry_end, end_at, entry_wrong, size_wrong, head_wrong, index_refusal}
 use Rattle.opening.specs.Opening.{fixed_refusal, rows_said, body_refusal, open_refusal, table_refusal, opened, opened_of}
 
 -- ---- where a row ends by its entry: an entry past the index says 0
@@ -71,6 +72,25 @@ module _ (l : Layout) (index : List ℕ) where
 
     pub end_next : (bytes : ℕ) → bytes ≡ length_at l index (i + 1) → offset + bytes ≡ end_at l index (i + 1)
     end_next bytes b = rw (a, b) (end_entry (i + 1) (λ q. omega arith))
+
+-- a number of an entry that is cut out of the index
+pub entry_number : (o : Order) (index : List ℕ) (at k : ℕ) → at + 8 ≤ length index → k + 4 ≤ 8
+    → number o (take (at + 8 - at) (drop at index)) k 4 ≡ number o index (at + k) 4
+entry_number o index at k h l =
+    let q : at + 8 - at ≡ 8 = omega arith in
+    rw q (number_within o index at 8 k 4 h l)
+
+pub entry_first : (o : Order) (index : List ℕ) (at : ℕ) → at + 8 ≤ length index
+    → number o (take (at + 8 - at) (drop at index)) 0 4 ≡ number o index at 4
+entry_first o index at h = entry_number o index at 0 h (omega arith) ∙ ap (λ (k : ℕ). number o index k 4) (add-zero at)
+
+-- an index whose head is right has all its entries
+pub entries_there : (l : Layout) (index : List ℕ) → head_wrong l index ≡ false → 8 + 8 * entries_said l index ≤ length index
+unfolding head_wrong
+entries_there l index h =
+    bool_cases (eqb (length index) (8 + 8 * entries_said l index))
+    (λ t. let e = eqb-true (length index) (8 + 8 * entries_said l index) t in omega (arith, e))
+    (λ t. absurd (true≢false (sym (ap (λ (b : Bool). cond b (size_wrong l index) true) t) ∙ h)))
 
 -- ---- the index judged: n is the count that it says, w the lowest entry that starts elsewhere
 module _ (l : Layout) (index : List ℕ) (size : ℕ) where
@@ -221,4 +241,5 @@ unfolding opened_of table_refusal header_of
 opened_column file index most o e name =
     let g = given (table_refusal file index most) (opened file index) o e in
     let z = (both (header_refusal file) (first (open_refusal (layout_of file) index (length file) most) fine) g.0).0 in
-    rw g.1 (among_names file name (handed_on file) ((accepted_number (header_refusal file) (handed_on file)).1 z))
+    rw g.1
+    (ap (among_given file name) (sym ((accepted_number (header_refusal file) (handed_on file)).1 z)) ∙ among_names file name)

@@ -78,5 +78,10 @@ pub fn find_rectangle(
         return Err(Kind::NoSuch.at(column));
     }
     let value = table::read_value(file, index, table, row, column)?;
-    in_part(table::part_of(file, value), c.kind, layout.order, column)
+    in_part(
+        table::part_of(file, Ok(value)),
+        c.kind,
+        layout.order,
+        column,
+    )
 }

@@ -1,9 +1,8 @@
 -- What a test answers in code and the refusal that its definition gives say the same: of one test, of two in order, of the lowest row.
-use Rattle.std.proofs.Common.{◌≡◌, refl, sym, ap, ◌∙◌, Bool, true, false, cond, ℕ, zero, suc, ◌+◌, ◌<◌, ◌≤◌, eqb, Ok, Err, List, [], ◌∷◌, eq-eqb, ne_eqb, arith, Result, Option, Some}
-use Rattle.laws.specs.Lowest.{found, lowest, None}
-use Rattle.laws.proofs.LowestLaws.{bool_cases}
+use Rattle.std.proofs.Common.{◌≡◌, refl, ℕ, zero, suc, Ok, Err, eq-eqb, ne_eqb, arith}
+use Rattle.laws.specs.Lowest.{found}
 use Rattle.refusal.specs.declared.Refusal.{Refusal}
-use Rattle.refusal.specs.Order.{Answer, refusal, fine, answered, refused_at, located, first, first_of, lowest_of, refuses}
+use Rattle.refusal.specs.Order.{refusal, answered, refused_at, located, first}
 use Rattle.refusal.proofs.OrderLaws.{first_passes, first-refuses, located-zero, located-at}
 
 -- nothing is refused, or this is

@@ -1,7 +1,38 @@
 -- "Refusals by number": what each kind of refusal is called in code, and its number in document 01's table.
 use Rattle.std.specs.Prelude.{◌≡◌, ℕ, Result, MatchResult}
 use Rattle.refusal.specs.declared.Kind.{Kind}
-use Rattle.refusal.specs.declared.Kind.TheVariants.{CutOff, NoOrderLetter, NotInGrammar, WrongDefinition, WrongColumns, WrongKey, WrongBody, WrongIndex, WrongId, WrongRow, BadTriplet, NotFinite, NoSuch, TooShort, OverLimit, NoWaveHeight, WrongColumn, NodeOutOfRange, FaceOutOfRange, EdgeOutOfRange, NotTouching, FaceDiffers, LoopOfOneFace, ManyBefore, WrongFirstEdge, WrongRingRows, WrongStart, CycleOwned, NoRing, NotClosed}
+use Rattle.refusal.specs.declared.Kind.TheVariants.{
+  CutOff,
+  NoOrderLetter,
+  NotInGrammar,
+  WrongDefinition,
+  WrongColumns,
+  WrongKey,
+  WrongBody,
+  WrongIndex,
+  WrongId,
+  WrongRow,
+  BadTriplet,
+  NotFinite,
+  NoSuch,
+  TooShort,
+  OverLimit,
+  NoWaveHeight,
+  WrongColumn,
+  NodeOutOfRange,
+  FaceOutOfRange,
+  EdgeOutOfRange,
+  NotTouching,
+  FaceDiffers,
+  LoopOfOneFace,
+  ManyBefore,
+  WrongFirstEdge,
+  WrongRingRows,
+  WrongStart,
+  CycleOwned,
+  NoRing,
+  NotClosed,
+}
 use Rattle.refusal.specs.declared.Unlisted.{Unlisted}
 
 abbrev pub number_of : Kind → ℕ

@@ -2,9 +2,10 @@
 // number 0.
 #![tactic(auto)]
 
-ghost use Rattle.std.specs.Prelude.{◌≡◌, eqb};
+ghost use Rattle.std.specs.Prelude.{◌≡◌, eqb, Some};
 ghost use Rattle.refusal.specs.Kinds.{number_of, NumberOf};
 ghost use Rattle.refusal.specs.Order.{refusal, refused_at};
+ghost use Rattle.refusal.specs.Shown.{refusal_text};
 
 use std::fmt;
 
@@ -216,7 +217,10 @@ impl Refusal {
     }
 }
 
+// As `13 at 5`: the number, and where.
 impl fmt::Display for Refusal {
+    ghost output = { λ q. Some (refusal_text q) };
+
     fn fmt<W: fmt::Write>(&self, f: &mut fmt::Formatter<W>) -> fmt::Result {
         write!(f, "{} at {}", self.number, self.place)
     }

@@ -2,7 +2,38 @@
 use Rattle.std.proofs.Common.{◌≡◌, refl, sym, ap, ◌∙◌, List, [], ◌∷◌, ℕ, get_or}
 use Rattle.refusal.specs.Kinds.{number_of}
 use Rattle.refusal.specs.declared.Kind.{Kind}
-use Rattle.refusal.specs.declared.Kind.TheVariants.{CutOff, NoOrderLetter, NotInGrammar, WrongDefinition, WrongColumns, WrongKey, WrongBody, WrongIndex, WrongId, WrongRow, BadTriplet, NotFinite, NoSuch, TooShort, OverLimit, NoWaveHeight, WrongColumn, NodeOutOfRange, FaceOutOfRange, EdgeOutOfRange, NotTouching, FaceDiffers, LoopOfOneFace, ManyBefore, WrongFirstEdge, WrongRingRows, WrongStart, CycleOwned, NoRing, NotClosed}
+use Rattle.refusal.specs.declared.Kind.TheVariants.{
+  CutOff,
+  NoOrderLetter,
+  NotInGrammar,
+  WrongDefinition,
+  WrongColumns,
+  WrongKey,
+  WrongBody,
+  WrongIndex,
+  WrongId,
+  WrongRow,
+  BadTriplet,
+  NotFinite,
+  NoSuch,
+  TooShort,
+  OverLimit,
+  NoWaveHeight,
+  WrongColumn,
+  NodeOutOfRange,
+  FaceOutOfRange,
+  EdgeOutOfRange,
+  NotTouching,
+  FaceDiffers,
+  LoopOfOneFace,
+  ManyBefore,
+  WrongFirstEdge,
+  WrongRingRows,
+  WrongStart,
+  CycleOwned,
+  NoRing,
+  NotClosed,
+}
 
 -- the kinds at the places of their numbers; 0, 18 and 19 are no kind's
 abbrev kinds : List Kind

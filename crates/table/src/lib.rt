@@ -3,7 +3,7 @@
 
 pub mod rows;
 
-ghost use Rattle.std.specs.Prelude.{◌≡◌, min, ◌+◌, ◌-◌, ◌≤◌, ◌<◌, length, take, drop, Ok};
+ghost use Rattle.std.specs.Prelude.{◌≡◌, min, ◌+◌, ◌-◌, ◌≤◌, ◌<◌, length, take, drop};
 ghost use Rattle.field.specs.Fields.{widest};
 ghost use Rattle.limits.specs.Limits.{most_columns, most_rows};
 ghost use Rattle.refusal.specs.Order.{answered, fine};
@@ -334,10 +334,13 @@ fn extent_of(shown: Value) -> Extent
     }
 }
 
-// "Text and date are shown as parts of the caller's file, not copied."
+// "Text and date are shown as parts of the caller's file, not copied." What is refused shows no bytes.
 #[tactic(auto, unfolding(crate::specs::Values::part_of))]
-pub fn part_of<'a>(file: &'a [u8], shown: Value) -> &'a [u8]
-    ensures { result.now ≡ part_of file.now (Ok shown) }
+pub fn part_of<'a>(file: &'a [u8], shown: Result<Value, Refusal>) -> &'a [u8]
+    ensures { result.now ≡ part_of file.now shown }
 {
-    part(file, extent_of(shown))
+    match shown {
+        Ok(value) => part(file, extent_of(value)),
+        Err(_) => &file[0..0],
+    }
 }

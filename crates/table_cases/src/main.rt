@@ -81,15 +81,15 @@ fn say_value(out: &mut impl Write, file: &[u8], v: Value) -> io::Result<()> {
         Value::Triplet(ids) => write!(out, "triplet {} {} {}", ids.id, ids.tile, ids.other),
         Value::Text(extent) => {
             say(out, b"text")?;
-            say_text(out, table::part_of(file, v), extent.start)
+            say_text(out, table::part_of(file, Ok(v)), extent.start)
         }
         Value::Date(extent) => {
             say(out, b"date")?;
-            say_text(out, table::part_of(file, v), extent.start)
+            say_text(out, table::part_of(file, Ok(v)), extent.start)
         }
         Value::Coordinates(extent) => {
             say(out, b"coordinates ")?;
-            say_bytes(out, table::part_of(file, v))?;
+            say_bytes(out, table::part_of(file, Ok(v)))?;
             write!(out, " at {}", extent.start)
         }
         Value::Empty => say(out, b"empty"),

@@ -27,7 +27,8 @@ pub found-lesser : (a b : ℕ) → found (lesser a b) ≡ lesser_of (found a) (f
 unfolding lesser
 found-lesser zero b = refl
 found-lesser (suc a) zero = rw (ne_eqb (suc a) 0 (λ e. omega (arith, e)))
-found-lesser (suc a) (suc b) = by_cases (dec_lt (suc a) (suc b)) (λ c. rw (ne_eqb (suc a) 0 (λ e. omega (arith, e)), ne_eqb (suc b) 0 (λ e. omega (arith, e)), lt-ltb (suc a) (suc b) c) (ap Some (omega arith)))
+found-lesser (suc a) (suc b) = by_cases (dec_lt (suc a) (suc b))
+    (λ c. rw (ne_eqb (suc a) 0 (λ e. omega (arith, e)), ne_eqb (suc b) 0 (λ e. omega (arith, e)), lt-ltb (suc a) (suc b) c) (ap Some (omega arith)))
     (λ c. rw (ne_eqb (suc a) 0 (λ e. omega (arith, e)), ne_eqb (suc b) 0 (λ e. omega (arith, e)), le-ltb (suc a) (suc b) (omega arith)) (ap Some (omega arith)))
 
 module _ (ring_ptr fac_id : List ℕ) where

@@ -62,11 +62,13 @@ fn judge(tile: &SizedTile, marks: &mut [u32]) -> Result<(), Refusal>
     ensures value { result ≡ answered (first_of (later_tests tile.now)) }
     ensures marks_after { marks.new ≡ marks_judged tile.now (first_of (later_tests tile.now)) marks.old }
 {
-    let answer = judge_parts(tile, marks);
-    if answer.is_err() {
-        owners::clear(marks, tile.sides());
+    match judge_parts(tile, marks) {
+        Ok(()) => Ok(()),
+        Err(refusal) => {
+            owners::clear(marks, tile.sides());
+            Err(refusal)
+        }
     }
-    answer
 }
 
 // The check. On acceptance the marks hold the ring row of each side; refusals 20 to 31 set the first 2E to zero.

@@ -47,29 +47,29 @@ encoded_by o t s s₁ s₂ s₃ b w₁ w₂ h e f g x y z =
 
 -- the tests in order: each refuses where the earlier ones pass, and without a refusal the bytes are written
 module _ (len at : ℕ) (t : Ids) where
-  pub refuses_part : (r : Refusal) → refused_at bad_triplet (found (lowest (part_too_large t) 3)) ≡ Err r → Err r ≡ written_of len at t
+  pub no_part : (r : Refusal) → refused_at bad_triplet (found (lowest (part_too_large t) 3)) ≡ Err r → Err r ≡ written_of len at t
   unfolding written_of first located
-  refuses_part r = by (lowest (part_too_large t) 3) refl
+  no_part r = by (lowest (part_too_large t) 3) refl
     where
       by : (p : ℕ) → lowest (part_too_large t) 3 ≡ p → refused_at bad_triplet (found p) ≡ Err r → Err r ≡ written_of len at t
       by zero e h = let no : ⊥ = cc in absurd no
       by (suc p) e h = let q : refusal bad_triplet (suc p) ≡ r = cc in rw (← q, e, ne_eqb (suc p) 0 (λ z. omega arith))
 
-  pub passes_parts : refused_at bad_triplet (found (lowest (part_too_large t) 3)) ≡ Ok tt → lowest (part_too_large t) 3 ≡ 0
-  passes_parts = by (lowest (part_too_large t) 3)
+  pub parts : refused_at bad_triplet (found (lowest (part_too_large t) 3)) ≡ Ok tt → lowest (part_too_large t) 3 ≡ 0
+  parts = by (lowest (part_too_large t) 3)
     where
       by : (p : ℕ) → refused_at bad_triplet (found p) ≡ Ok tt → p ≡ 0
       by zero h = refl
       by (suc p) h = let no : ⊥ = cc in absurd no
 
-  pub refuses_place : lowest (part_too_large t) 3 ≡ 0 → len < at → Err (refusal no_such_place at) ≡ written_of len at t
+  pub no_place : lowest (part_too_large t) 3 ≡ 0 → len < at → Err (refusal no_such_place at) ≡ written_of len at t
   unfolding written_of first located
-  refuses_place e h = rw (e, lt-ltb len at h)
+  no_place e h = rw (e, lt-ltb len at h)
 
-  pub refuses_room : lowest (part_too_large t) 3 ≡ 0 → at ≤ len → len < at + size_of t
+  pub no_room : lowest (part_too_large t) 3 ≡ 0 → at ≤ len → len < at + size_of t
       → Err (refusal too_short (at + size_of t)) ≡ written_of len at t
   unfolding written_of first located
-  refuses_room e h r = rw (e, le-ltb len at h, lt-ltb len (at + size_of t) r)
+  no_room e h r = rw (e, le-ltb len at h, lt-ltb len (at + size_of t) r)
 
   pub writes : lowest (part_too_large t) 3 ≡ 0 → at + size_of t ≤ len → Ok (size_of t) ≡ written_of len at t
   unfolding written_of first located

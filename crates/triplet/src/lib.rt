@@ -199,7 +199,7 @@ fn put(s: &mut [u8], ids: Ids, order: Order)
 
 // Writes the triplet into the row at a place and changes no other byte; where it is refused it changes none.
 // Example: 1, 0, 0 is written as `40 01`. Of a row of 10 bytes, 6, 260, 210 at 5 fills it to the end, and at 6 is refused with 14 at 11.
-#[tactic(auto, using(crate::proofs::WriterLaws::refuses_part, crate::proofs::WriterLaws::passes_parts, crate::proofs::WriterLaws::refuses_place, crate::proofs::WriterLaws::refuses_room, crate::proofs::WriterLaws::writes))]
+#[tactic(auto, using(crate::proofs::WriterLaws::no_part, crate::proofs::WriterLaws::parts, crate::proofs::WriterLaws::no_place, crate::proofs::WriterLaws::no_room, crate::proofs::WriterLaws::writes))]
 pub fn write(row: &mut [u8], at: usize, ids: Ids, order: Order) -> Result<usize, Refusal>
     ensures value { result ≡ written_of (length row.old) at ids }
     ensures row_after { row.new ≡ row_after result order row.old at ids }

@@ -1,16 +1,19 @@
-use mathlib.Core.Path.{ap, ◌∙◌}
+use mathlib.Core.Path.{refl, ap, ◌∙◌}
+use native.Mathlib.Omega.{arith}
+use Prim.Native.Nat.{◌+◌, ◌-◌}
+use lib.ListN.{take, drop}
 use Rattle.std.proofs.Common.{rules}
 use Rattle.number.specs.Bytes.{least_first, in_order}
-use Rattle.number.proofs.NumberLaws.{number_rest, zeros_outside}
+use Rattle.number.proofs.NumberLaws.{number_part, zeros_outside}
 use Rattle.number.proofs.bytes_at.Goals as goal
 
-pub returns-in_default : goal.returns-in_default
-returns-in_default g c o = zeros_outside o c.args.s.now c.args.at g.row.N (search rules)
+pub returns-then-saturating_sub : goal.returns-then-saturating_sub
+returns-then-saturating_sub g c o =
+    zeros_outside o c.args.s.now c.args.at g.row.N (omega (arith, c.saturating_sub.ensures, c.if-saturating_sub.true))
 
-pub returns-in_default-first_chunk : goal.returns-in_default-first_chunk
-returns-in_default-first_chunk g c o = zeros_outside o c.args.s.now c.args.at g.row.N (search rules)
-
-pub returns : goal.returns
-returns g c o =
+pub returns-in-Some : goal.returns-in-Some
+returns-in-Some g c o =
+    let part = take (c.args.at + g.row.N - c.args.at) (drop c.args.at c.args.s.now) in
     ap (λ l. least_first (in_order o l)) (search rules)
-    ∙ number_rest o c.args.s.now c.args.at g.row.N {rest = c.in-Some.rest.now} (search rules) (search rules) (search rules)
+    ∙ number_part o c.args.s.now c.args.at g.row.N {part = part}
+    (omega (arith, c.saturating_sub.ensures, c.if-saturating_sub.false, c.requires)) refl

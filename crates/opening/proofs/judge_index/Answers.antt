@@ -1,7 +1,7 @@
 use Rattle.std.proofs.Common.{rules, ◌≡◌, refl, sym, ◌∙◌, Err}
 use Rattle.laws.specs.Lowest.{lowest}
 use Rattle.opening.specs.Opening.{end_at, entry_wrong}
-use Rattle.opening.proofs.OpeningLaws.{index_head, entry_refused, entries_pass, index_last, index-fine}
+use Rattle.opening.proofs.OpeningLaws.{index_head, entries_there, entry_refused, entries_pass, index_last, index-fine}
 use Rattle.opening.proofs.judge_index.Goals as goal
 
 pub returns-then-head_wrong : goal.returns-then-head_wrong
@@ -34,3 +34,7 @@ returns c =
     (sym c.head_wrong.ensures ∙ c.if-head_wrong.false) c.read-n.result (lowest (entry_wrong c.args.layout.now c.args.index.now) c.read-n.result) c.read-n.ensures refl
     (entries_pass (lowest (entry_wrong c.args.layout.now c.args.index.now) c.read-n.result) _ c.wrong_entry.ensures (sym c.at_lowest.ensures ∙ c.in_ok-at_lowest.was))
     (sym c.entry_end.ensures ∙ c.if-entry_end-size.false)) refl
+
+pub wrong_entry-requires : goal.wrong_entry-requires
+wrong_entry-requires c =
+    rw c.read-n.ensures (entries_there c.args.layout.now c.args.index.now (sym c.head_wrong.ensures ∙ c.if-head_wrong.false))

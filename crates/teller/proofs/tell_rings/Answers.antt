@@ -64,7 +64,8 @@ overflow_add-all c =
 pub loop-i-preserved : goal.loop-i-preserved
 loop-i-preserved c =
     let t = tile_of (goal.at.loop-i-preserved c).At-loop-i in
-    let face = c.row.ensures ∙ ap (λ (l : Columns). entry l.fac_id (c.loop-i.i + 1)) c.columns.view_is ∙ ring_face c.args.counts (lent (goal.at.loop-i-preserved c).At-loop-i) c.requires.program_sides_value (c.loop-i.i + 1) (omega arith, omega arith) in
+    let face = c.row.ensures ∙ ap (λ (l : Columns). entry l.fac_id (c.loop-i.i + 1)) c.columns.view_is ∙
+    ring_face c.args.counts (lent (goal.at.loop-i-preserved c).At-loop-i) c.requires.program_sides_value (c.loop-i.i + 1) (omega arith, omega arith) in
     let more = ring_added t _ _ _ _ _ _ c.loop-i.i (c.loop-i.i + 1) _ _ _ _ refl face c.walk_ring.ensures.value c.loop-i.invariant.0
     c.steps_of-steps.ensures c.loop-i.invariant.3 c.loop-i.invariant.4
     c.add_ring-at.ensures.value c.add_ring-at.ensures.text_after in (

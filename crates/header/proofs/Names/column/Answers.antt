@@ -8,17 +8,17 @@ use Rattle.header.proofs.Names.column.Goals as goal
 pub loop-k-init : goal.loop-k-init
 loop-k-init c = none_start (is_among c.args.file.now c.args.self.now c.args.name.now)
 
-pub returns-then-eq_ignore_ascii_case : goal.returns-then-eq_ignore_ascii_case
-returns-then-eq_ignore_ascii_case c =
+pub returns-then-same_text : goal.returns-then-same_text
+returns-then-same_text c =
     found_next (is_among c.args.file.now c.args.self.now c.args.name.now) c.args.n c.loop-k.k (omega arith) c.loop-k.invariant
     (among_said c.args.file.now c.args.self.now c.args.name.now c.loop-k.k c.part.result.now c.part.ensures
-    c.eq_ignore_ascii_case.result c.eq_ignore_ascii_case.ensures.test ∙ c.if-eq_ignore_ascii_case.true)
+    c.same_text.result c.same_text.ensures ∙ c.if-same_text.true)
 
 pub loop-k-preserved : goal.loop-k-preserved
 loop-k-preserved c =
     none_next (is_among c.args.file.now c.args.self.now c.args.name.now) c.loop-k.k c.loop-k.invariant
     (among_said c.args.file.now c.args.self.now c.args.name.now c.loop-k.k c.part.result.now c.part.ensures
-    c.eq_ignore_ascii_case.result c.eq_ignore_ascii_case.ensures.test ∙ c.if-eq_ignore_ascii_case.false)
+    c.same_text.result c.same_text.ensures ∙ c.if-same_text.false)
 
 pub returns : goal.returns
 returns c =

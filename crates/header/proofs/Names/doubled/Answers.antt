@@ -15,7 +15,7 @@ use Rattle.header.proofs.Names.doubled.Goals.{
   After-number_of-number,
   then-marked-slot,
   else-marked-slot,
-  else-seen-earlier-via-then-seen-earlier+else-eq_ignore_ascii_case,
+  else-seen-earlier-via-then-seen-earlier+else-same_text,
   else-seen-earlier-via-else-seen-earlier,
 }
 
@@ -50,10 +50,10 @@ loop-earlier-preserved c = (
   omega arith,
   none_next (names_as c.args.head.now c.search.later) c.loop-earlier.earlier c.loop-earlier.invariant.2
       (elim c.else-seen-earlier.branch [
-        | else-seen-earlier-via-then-seen-earlier+else-eq_ignore_ascii_case w ↦ pair_said c.args.head.now c.args.n c.args.self.now
-            c.requires.1 c.loop-earlier.earlier c.search.later w.part.result.now c.part-name.result.now w.eq_ignore_ascii_case.result
-            (omega arith) (omega arith) w.part.ensures c.part-name.ensures w.eq_ignore_ascii_case.ensures.test
-            ∙ w.if-eq_ignore_ascii_case.false
+        | else-seen-earlier-via-then-seen-earlier+else-same_text w ↦ pair_said c.args.head.now c.args.n c.args.self.now
+            c.requires.1 c.loop-earlier.earlier c.search.later w.part.result.now c.part-name.result.now w.same_text.result
+            (omega arith) (omega arith) w.part.ensures c.part-name.ensures w.same_text.ensures
+            ∙ w.if-same_text.false
         | else-seen-earlier-via-else-seen-earlier w ↦ other_seen c.args.head.now c.search.later c.number_of-number.result
             (number_is (goal.at.loop-earlier-preserved c).After-number_of-number) c.search.seen _
             c.search.invariant.2 c.loop-earlier.earlier (omega arith) w.if-seen-earlier.false
@@ -78,10 +78,10 @@ returns-after-search c =
     let q : c.search.later ≡ c.args.n = omega arith in
     c.search.invariant.0 ∙ found_nothing (named_before c.args.head.now) c.args.n (rw q at c.search.invariant.1)
 
-pub returns-then-eq_ignore_ascii_case : goal.returns-then-eq_ignore_ascii_case
-returns-then-eq_ignore_ascii_case c =
+pub returns-then-same_text : goal.returns-then-same_text
+returns-then-same_text c =
     found_next (named_before c.args.head.now) c.args.n c.search.later (omega arith) c.search.invariant.1
     (an_earlier c.args.head.now c.loop-earlier.earlier c.search.later c.loop-earlier.invariant.2 (omega arith)
     (pair_said c.args.head.now c.args.n c.args.self.now c.requires.1 c.loop-earlier.earlier c.search.later c.part.result.now
-    c.part-name.result.now c.eq_ignore_ascii_case.result (omega arith) (omega arith) c.part.ensures c.part-name.ensures
-    c.eq_ignore_ascii_case.ensures.test ∙ c.if-eq_ignore_ascii_case.true))
+    c.part-name.result.now c.same_text.result (omega arith) (omega arith) c.part.ensures c.part-name.ensures
+    c.same_text.ensures ∙ c.if-same_text.true))

@@ -33,8 +33,10 @@ bounds-places-column c =
     let d = column_there c.args.table.now.layout c.args.column c.requires.column_value in
     let t = turn c.args.file.now c.args.index.now c.args.table.now.layout c.args.table.now.rows c.requires.rows_judged c.requires.rows_le_most_rows c.loop-i.i c.loop-i.start
     c.bound-end.result c.loop-i-test.true c.loop-i.invariant.0 (rw c.of-rows.ensures at c.bound-end.ensures) c.of-rows.result.plan
-    (plan_there c.args.table.now.layout c.of-rows.result c.of-rows.ensures) c.args.column c.walk_row-origin.result c.loop-i.places _ c.loop-i.invariant.1 (rw c.of-rows.ensures at c.walk_row-origin.ensures.value)
-    (places_by_layout c.args.table.now.layout c.of-rows.result c.of-rows.ensures c.args.file.now c.args.column c.loop-i.start c.bound-end.result c.loop-i.places _ c.walk_row-origin.ensures.places_after) in
+    (plan_there c.args.table.now.layout c.of-rows.result c.of-rows.ensures) c.args.column c.walk_row-origin.result
+    c.loop-i.places _ c.loop-i.invariant.1 (rw c.of-rows.ensures at c.walk_row-origin.ensures.value)
+    (places_by_layout c.args.table.now.layout c.of-rows.result c.of-rows.ensures c.args.file.now c.args.column c.loop-i.start
+    c.bound-end.result c.loop-i.places _ c.walk_row-origin.ensures.places_after) in
     omega (arith, d.0, d.1, t.still.0)
 
 pub loop-i-preserved : goal.loop-i-preserved
@@ -43,8 +45,10 @@ loop-i-preserved c =
     let q : pred c.args.column ≡ c.args.column - 1 = omega arith in
     let t = turn c.args.file.now c.args.index.now c.args.table.now.layout c.args.table.now.rows c.requires.rows_judged c.requires.rows_le_most_rows c.loop-i.i c.loop-i.start
     c.bound-end.result c.loop-i-test.true c.loop-i.invariant.0 (rw c.of-rows.ensures at c.bound-end.ensures) c.of-rows.result.plan
-    (plan_there c.args.table.now.layout c.of-rows.result c.of-rows.ensures) c.args.column c.walk_row-origin.result c.loop-i.places _ c.loop-i.invariant.1 (rw c.of-rows.ensures at c.walk_row-origin.ensures.value)
-    (places_by_layout c.args.table.now.layout c.of-rows.result c.of-rows.ensures c.args.file.now c.args.column c.loop-i.start c.bound-end.result c.loop-i.places _ c.walk_row-origin.ensures.places_after) in
+    (plan_there c.args.table.now.layout c.of-rows.result c.of-rows.ensures) c.args.column c.walk_row-origin.result
+    c.loop-i.places _ c.loop-i.invariant.1 (rw c.of-rows.ensures at c.walk_row-origin.ensures.value)
+    (places_by_layout c.args.table.now.layout c.of-rows.result c.of-rows.ensures c.args.file.now c.args.column c.loop-i.start
+    c.bound-end.result c.loop-i.places _ c.walk_row-origin.ensures.places_after) in
     let v = c.number_by-cell.ensures
     ∙ ap (λ (p : ℕ). number_by c.args.table.now.layout.order c.args.file.now c.letter-letter.result p c.bound-end.result)
     c.place_within.ensures in (

@@ -27,8 +27,10 @@ loop-i-preserved c =
     let g : ℕ → ℕ → ℕ = λ k. cell_of c.args.file.now c.args.index.now c.args.table.now.layout (number_at_place c.args.columns.now k) in
     let t = turn c.args.file.now c.args.index.now c.args.table.now.layout c.args.table.now.rows c.requires.rows_judged c.requires.rows_le_most_rows c.loop-i.i c.loop-i.start
     c.bound-end.result c.loop-i-test.true c.loop-i.invariant.0 (rw c.of-rows.ensures at c.bound-end.ensures) c.of-rows.result.plan
-    (plan_there c.args.table.now.layout c.of-rows.result c.of-rows.ensures) c.args.table.now.layout.columns c.walk_row-origin.result c.loop-i.places _ c.loop-i.invariant.1 (rw c.of-rows.ensures at c.walk_row-origin.ensures.value)
-    (places_by_layout c.args.table.now.layout c.of-rows.result c.of-rows.ensures c.args.file.now c.args.table.now.layout.columns c.loop-i.start c.bound-end.result c.loop-i.places _ c.walk_row-origin.ensures.places_after) in
+    (plan_there c.args.table.now.layout c.of-rows.result c.of-rows.ensures) c.args.table.now.layout.columns
+    c.walk_row-origin.result c.loop-i.places _ c.loop-i.invariant.1 (rw c.of-rows.ensures at c.walk_row-origin.ensures.value)
+    (places_by_layout c.args.table.now.layout c.of-rows.result c.of-rows.ensures c.args.file.now c.args.table.now.layout.columns
+    c.loop-i.start c.bound-end.result c.loop-i.places _ c.walk_row-origin.ensures.places_after) in
     let v = cells_read c.args.file.now c.args.index.now c.args.table.now.layout c.loop-i.i c.args.table.now.layout.columns _ _ _ c.args.columns.now c.edge_letters-letters.result
     c.edge_cells-cells.result t c.requires.edge_columns (omega arith) c.edge_letters-letters.ensures
     c.edge_cells-cells.ensures in
